@@ -1,0 +1,156 @@
+-- Each public contract fixes its result: any two results that it allows of one call, and what they leave in lent bytes, are one. Stated over the
+-- contract's own generated reading. Assumes nothing.
+use mathlib.Core.Path.{_≡_, refl, sym, ap, _∙_}
+use mathlib.Core.Bool.{Bool, true, false, cond}
+use mathlib.Core.List.{List, [], _∷_}
+use Prim.Native.Nat.{ℕ}
+use lib.Dec.{eqb}
+use lib.IntN.{ℤ}
+use borrow.Fn.Kinds.{Dens, resT, endedOf}
+use contract.Lifetimes.{Lfts}
+use denote.Triple.Clauses.{AtExit}
+use Rattle.number.specs.Answer.{Answer, accepted, refused, Outcome}
+use Rattle.number.specs.BigEndian.{Put}
+use Rattle.number.specs.Number.{Number, numberRead}
+use Rattle.number.specs.Written.{numberWritten, integerWritten}
+use Rattle.number.specs.Call.{wholeOf, calleeOf}
+use Rattle.number.specs.declared.read.NumberRead.{NumberRead}
+use Rattle.number.specs.declared.read.NumberRead.the-variants.{Read, Missing, NoNumber}
+use Rattle.number.specs.declared.write.NumberWritten.{NumberWritten}
+use Rattle.number.specs.declared.write.NumberWritten.the-variants.{Bytes, Short, Outside}
+use Rattle.number.specs.declared.write.IntegerWritten.{IntegerWritten}
+use Rattle.number.specs.declared.write.IntegerWritten.the-variants.{Bytes as Stored, Short as NoRoom}
+use Rattle.number.specs.declared.call.Whole.{Whole}
+use Rattle.number.specs.declared.call.Whole.the-variants.{Is, Not}
+use Rattle.number.specs.declared.call.Callee.{Callee}
+use Rattle.number.specs.declared.call.Callee.the-variants.{Entry, NotWhole, Outside as Past}
+use Rattle.number.proofs.read.read_charstring_number.Kinds as charstring-kinds
+use Rattle.number.proofs.read.read_charstring_number.Reads as charstring-reads
+use Rattle.number.proofs.read.read_dict_integer.Kinds as dict-kinds
+use Rattle.number.proofs.read.read_dict_integer.Reads as dict-reads
+use Rattle.number.proofs.write.write_charstring_number.Kinds as charstring-write-kinds
+use Rattle.number.proofs.write.write_charstring_number.Reads as charstring-write-reads
+use Rattle.number.proofs.write.write_dict_integer.Kinds as dict-write-kinds
+use Rattle.number.proofs.write.write_dict_integer.Reads as dict-write-reads
+use Rattle.number.proofs.call.call_index.Kinds as index-kinds
+use Rattle.number.proofs.call.call_index.Reads as index-reads
+use Rattle.number.proofs.call.callee_of.Kinds as callee-kinds
+use Rattle.number.proofs.call.callee_of.Reads as callee-reads
+use Rattle.number.proofs.big_endian.read_be.Kinds as read-be-kinds
+use Rattle.number.proofs.big_endian.read_be.Reads as read-be-reads
+use Rattle.number.proofs.big_endian.write_be.Kinds as write-be-kinds
+use Rattle.number.proofs.big_endian.write_be.Reads as write-be-reads
+
+-- ---- an answer says which value the enum has
+
+-- a map that can be undone takes two values to one answer only where they are one
+one-of : {A B : Type 0} (to : A → B) (back : B → A) → ((x : A) → back (to x) ≡ x) → (x y : A) → to x ≡ to y → x ≡ y
+one-of to back undone x y e = sym (undone x) ∙ ap back e ∙ undone y
+
+-- the value of a list of one
+sole : List ℕ → ℕ
+sole [] = 0
+sole (n ∷ l) = n
+
+read-back : Answer Number → NumberRead
+read-back (accepted x) = Read (x .operand) (x .width)
+read-back (refused n v) = cond (eqb n 4) Missing NoNumber
+
+one-read : (x y : NumberRead) → numberRead x ≡ numberRead y → x ≡ y
+unfolding read-back
+one-read = one-of numberRead read-back undone
+  where
+    undone : (x : NumberRead) → read-back (numberRead x) ≡ x
+    undone (Read o n) = refl
+    undone Missing = refl
+    undone NoNumber = refl
+
+written-back : Answer ℕ → NumberWritten
+written-back (accepted n) = Bytes n
+written-back (refused n v) = cond (eqb n 13) (Short (sole v)) Outside
+
+one-written : (x y : NumberWritten) → numberWritten x ≡ numberWritten y → x ≡ y
+unfolding written-back sole
+one-written = one-of numberWritten written-back undone
+  where
+    undone : (x : NumberWritten) → written-back (numberWritten x) ≡ x
+    undone (Bytes n) = refl
+    undone (Short n) = refl
+    undone Outside = refl
+
+integer-back : Answer ℕ → IntegerWritten
+integer-back (accepted n) = Stored n
+integer-back (refused n v) = NoRoom (sole v)
+
+one-integer : (x y : IntegerWritten) → integerWritten x ≡ integerWritten y → x ≡ y
+unfolding integer-back sole
+one-integer = one-of integerWritten integer-back undone
+  where
+    undone : (x : IntegerWritten) → integer-back (integerWritten x) ≡ x
+    undone (Stored n) = refl
+    undone (NoRoom n) = refl
+
+whole-back : Answer ℤ → Whole
+whole-back (accepted z) = Is z
+whole-back (refused n v) = Not
+
+one-whole : (x y : Whole) → wholeOf x ≡ wholeOf y → x ≡ y
+unfolding whole-back
+one-whole = one-of wholeOf whole-back undone
+  where
+    undone : (x : Whole) → whole-back (wholeOf x) ≡ x
+    undone (Is z) = refl
+    undone Not = refl
+
+callee-back : Answer ℕ → Callee
+callee-back (accepted k) = Entry k
+callee-back (refused n v) = cond (eqb n 7) NotWhole Past
+
+one-callee : (x y : Callee) → calleeOf x ≡ calleeOf y → x ≡ y
+unfolding callee-back
+one-callee = one-of calleeOf callee-back undone
+  where
+    undone : (x : Callee) → callee-back (calleeOf x) ≡ x
+    undone (Entry k) = refl
+    undone NotWhole = refl
+    undone Past = refl
+
+answered : {x y : Outcome} → x ≡ y → x .answer ≡ y .answer
+answered e = ap (λ (o : Outcome). o .answer) e
+
+-- ---- each public function
+
+pub read-charstring-number-once : (κs : Lfts 1) (a : Dens κs charstring-kinds.ps) (r r′ : resT charstring-kinds.r κs .Denot)
+    (x x′ : AtExit (endedOf 1 charstring-kinds.ps charstring-kinds.r) κs) → charstring-reads.Post κs a r x → charstring-reads.Post κs a r′ x′ → r ≡ r′
+read-charstring-number-once κs a r r′ x x′ p p′ = one-read r r′ (p ∙ sym p′)
+
+pub read-dict-integer-once : (κs : Lfts 1) (a : Dens κs dict-kinds.ps) (r r′ : resT dict-kinds.r κs .Denot)
+    (x x′ : AtExit (endedOf 1 dict-kinds.ps dict-kinds.r) κs) → dict-reads.Post κs a r x → dict-reads.Post κs a r′ x′ → r ≡ r′
+read-dict-integer-once κs a r r′ x x′ p p′ = one-read r r′ (p ∙ sym p′)
+
+pub write-charstring-number-once : (κs : Lfts 1) (a : Dens κs charstring-write-kinds.ps) (r r′ : resT charstring-write-kinds.r κs .Denot)
+    (x x′ : AtExit (endedOf 1 charstring-write-kinds.ps charstring-write-kinds.r) κs)
+    → charstring-write-reads.Post κs a r x → charstring-write-reads.Post κs a r′ x′ → (r ≡ r′) × (x .1 .0 .now ≡ x′ .1 .0 .now)
+write-charstring-number-once κs a r r′ x x′ p p′ = (one-written r r′ (answered (p ∙ sym p′)), ap (λ (o : Outcome). o .left) (p ∙ sym p′))
+
+pub write-dict-integer-once : (κs : Lfts 1) (a : Dens κs dict-write-kinds.ps) (r r′ : resT dict-write-kinds.r κs .Denot)
+    (x x′ : AtExit (endedOf 1 dict-write-kinds.ps dict-write-kinds.r) κs)
+    → dict-write-reads.Post κs a r x → dict-write-reads.Post κs a r′ x′ → (r ≡ r′) × (x .1 .0 .now ≡ x′ .1 .0 .now)
+write-dict-integer-once κs a r r′ x x′ p p′ = (one-integer r r′ (answered (p ∙ sym p′)), ap (λ (o : Outcome). o .left) (p ∙ sym p′))
+
+pub call-index-once : (κs : Lfts 0) (a : Dens κs index-kinds.ps) (r r′ : resT index-kinds.r κs .Denot)
+    (x x′ : AtExit (endedOf 0 index-kinds.ps index-kinds.r) κs) → index-reads.Post κs a r x → index-reads.Post κs a r′ x′ → r ≡ r′
+call-index-once κs a r r′ x x′ p p′ = one-whole r r′ (p ∙ sym p′)
+
+pub callee-of-once : (κs : Lfts 0) (a : Dens κs callee-kinds.ps) (r r′ : resT callee-kinds.r κs .Denot)
+    (x x′ : AtExit (endedOf 0 callee-kinds.ps callee-kinds.r) κs) → callee-reads.Post κs a r x → callee-reads.Post κs a r′ x′ → r ≡ r′
+callee-of-once κs a r r′ x x′ p p′ = one-callee r r′ (p ∙ sym p′)
+
+pub read-be-once : (κs : Lfts 1) (a : Dens κs read-be-kinds.ps) (r r′ : resT read-be-kinds.r κs .Denot)
+    (x x′ : AtExit (endedOf 1 read-be-kinds.ps read-be-kinds.r) κs) → read-be-reads.Post κs a r x → read-be-reads.Post κs a r′ x′ → r ≡ r′
+read-be-once κs a r r′ x x′ p p′ = p ∙ sym p′
+
+pub write-be-once : (κs : Lfts 1) (a : Dens κs write-be-kinds.ps) (r r′ : resT write-be-kinds.r κs .Denot)
+    (x x′ : AtExit (endedOf 1 write-be-kinds.ps write-be-kinds.r) κs)
+    → write-be-reads.Post κs a r x → write-be-reads.Post κs a r′ x′ → (r ≡ r′) × (x .0 .now ≡ x′ .0 .now)
+write-be-once κs a r r′ x x′ p p′ = (ap (λ (o : Put). o .answer) (p ∙ sym p′), ap (λ (o : Put). o .left) (p ∙ sym p′))

@@ -1,0 +1,12 @@
+pub mod Answer
+pub mod BigEndian
+pub mod BigEndianLaws
+pub mod Signed
+pub mod SignedLaws
+pub mod Number
+pub mod NumberLaws
+pub mod Written
+pub mod WrittenLaws
+pub mod Call
+pub mod CallLaws
+pub mod RoundTrip

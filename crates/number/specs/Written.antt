@@ -1,0 +1,74 @@
+-- Numbers written: in the first row of the table that has the operand, and so in the shortest form (`shortest` of RoundTrip.antt).
+use Prim.Native.Nat.{ℕ, _+_, _-_, _*_, _/_, _%_, _^_}
+use mathlib.Core.Bool.{Bool, true, false, cond, not, _&&_}
+use mathlib.Core.List.{List, [], _∷_, _++_}
+use lib.IntN.{ℤ, pos, negsuc, natAbs, _+ℤ_}
+use lib.Signed.{leZ}
+use lib.ListN.{length, drop}
+use lib.Dec.{leb}
+use Rattle.number.specs.Answer.{Answer, accepted, refused, Outcome}
+use Rattle.number.specs.BigEndian.{bytesOf}
+use Rattle.number.specs.Signed.{unsigned}
+use Rattle.number.specs.Number.{Value, near, above, below, twos, Row}
+use Rattle.number.specs.declared.Operand.{Operand}
+use Rattle.number.specs.declared.write.Form.{Form}
+use Rattle.number.specs.declared.write.NumberWritten.{NumberWritten}
+use Rattle.number.specs.declared.write.NumberWritten.the-variants.{Bytes, Short, Outside}
+use Rattle.number.specs.declared.write.IntegerWritten.{IntegerWritten}
+use Rattle.number.specs.declared.write.IntegerWritten.the-variants.{Bytes as Stored, Short as NoRoom}
+
+abbrev pub integer : ℤ → Operand
+integer z = record { fixed = false; value = z }
+
+abbrev pub same : Bool → Bool → Bool
+same true b = b
+same false b = not b
+
+-- whether a row has an operand: of its kind, from its lowest to its highest value
+abbrev pub has : Row → Operand → Bool
+has r o = same (r .fixed) (o .fixed) && (leZ (r .low) (o .value) && leZ (o .value) (r .high))
+
+-- a first byte, and `after` bytes of a number behind it
+abbrev pub form : ℕ → ℕ → ℕ → Form
+form b k v = record { first = b; after = k; rest = v }
+
+-- a value in two bytes, d past 108 from zero
+abbrev pub pair : Row → ℕ → Form
+pair r d = form (r .first + d / 256) (r .after) (d % 256)
+
+-- the form that a row gives a value it has
+unfoldable pub formBy : Value → Row → ℤ → Form
+formBy near r z = form (natAbs (z +ℤ pos 139)) (r .after) 0
+formBy above r z = pair r (natAbs z - 108)
+formBy below r z = pair r (natAbs z - 108)
+formBy twos r z = form (r .first) (r .after) (unsigned (2 ^ (8 * r .after - 1)) z)
+
+-- the form that a table gives an operand, or 17
+unfoldable pub spell : List Row → Operand → Answer Form
+spell [] o = refused 17 []
+spell (r ∷ rs) o = cond (has r o) (accepted (formBy (r .value) r (o .value))) (spell rs o)
+
+unfoldable pub bytes : Form → List ℕ
+bytes f = f .first ∷ bytesOf (f .after) (f .rest)
+
+-- refused: nothing changes; else the number's bytes come first and the rest stays, or 13 with the length that is needed
+unfoldable pub place : Answer Form → List ℕ → Outcome
+place (refused n v) out = record { answer = refused n v; left = out }
+place (accepted f) out =
+    cond (leb (length (bytes f)) (length out))
+    (record { answer = accepted (length (bytes f)); left = bytes f ++ drop (length (bytes f)) out })
+    (record { answer = refused 13 (length (bytes f) ∷ []); left = out })
+
+-- what writing an operand answers and leaves
+unfoldable pub write : List Row → Operand → List ℕ → Outcome
+write rows o out = place (spell rows o) out
+
+-- what the writers' enums say, by document 01's numbers
+abbrev pub numberWritten : NumberWritten → Answer ℕ
+numberWritten (Bytes n) = accepted n
+numberWritten (Short n) = refused 13 (n ∷ [])
+numberWritten Outside = refused 17 []
+
+abbrev pub integerWritten : IntegerWritten → Answer ℕ
+integerWritten (Stored n) = accepted n
+integerWritten (NoRoom n) = refused 13 (n ∷ [])

@@ -1,0 +1,31 @@
+// Numbers of CFF data: operands read and written, big-endian numbers of up to four bytes, and the
+// entry that a call's operand names. After subsetter's src/cff/number.rs and subroutines.rs.
+//
+// No public function has a `requires`: each answers every input, and its contract says with what.
+mod big_endian;
+mod call;
+mod read;
+mod signed;
+mod write;
+
+pub use crate::big_endian::Big;
+pub use crate::big_endian::Stored;
+pub use crate::big_endian::read_be;
+pub use crate::big_endian::write_be;
+pub use crate::call::Callee;
+pub use crate::call::Whole;
+pub use crate::call::call_index;
+pub use crate::call::callee_of;
+pub use crate::read::NumberRead;
+pub use crate::read::read_charstring_number;
+pub use crate::read::read_dict_integer;
+pub use crate::write::IntegerWritten;
+pub use crate::write::NumberWritten;
+pub use crate::write::write_charstring_number;
+pub use crate::write::write_dict_integer;
+
+// An operand: an integer, or a Fixed, whose value counts 65536ths.
+pub struct Operand {
+    pub fixed: bool,
+    pub value: i32,
+}

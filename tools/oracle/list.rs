@@ -1,0 +1,56 @@
+//! The stored list of the program `cases`: its standard input, and the output it owes.
+
+use crate::expected::{line, UNREADABLE};
+use crate::number;
+use crate::random::Random;
+use crate::record::{row, Record};
+use std::fs;
+use std::path::Path;
+
+/// How many records the sample has for each operation.
+const SAMPLE: usize = 2000;
+const SEED: u64 = 2;
+
+/// A length of 9, and then only three bytes.
+const CUT_OFF: [u8; 7] = [0, 0, 0, 9, 1, 0, 0];
+
+pub fn write(folder: &str) -> Result<(), String> {
+    let mut records = number::inputs::listed();
+    let mut random = Random::new(SEED);
+    for op in number::OPERATIONS {
+        for _ in 0..SAMPLE {
+            records.push(number::inputs::random(op, &mut random));
+        }
+    }
+    records.extend(unreadable());
+
+    let mut lines = String::new();
+    for record in &records {
+        lines += &line(record);
+        lines += "\n";
+    }
+    lines += UNREADABLE;
+    lines += "\n";
+
+    let folder = Path::new(folder);
+    let failed = |why: std::io::Error| format!("{}: {why}", folder.display());
+    fs::create_dir_all(folder).map_err(failed)?;
+    fs::write(folder.join("stdin"), row(&records, &CUT_OFF)).map_err(failed)?;
+    fs::write(folder.join("stdout"), lines).map_err(failed)?;
+    println!("{} records, and one cut off", records.len());
+    Ok(())
+}
+
+/// Records that are none, with sound ones between them, which must still be read. No operation is
+/// ever to have the numbers 0, 31 and 255.
+fn unreadable() -> Vec<Record> {
+    let mut records = vec![vec![], vec![0], vec![31], vec![255, 0, 0, 0, 0]];
+    records.extend(number::inputs::beyond());
+    for sound in number::inputs::one_of_each() {
+        records.push(sound[..sound.len() - 1].to_vec());
+        records.push(sound[..1].to_vec());
+        records.push([&sound[..], &[0]].concat());
+        records.push(sound);
+    }
+    records
+}
