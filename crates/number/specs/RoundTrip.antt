@@ -20,8 +20,8 @@ use Rattle.number.specs.Signed.{signed, unsigned}
 use Rattle.number.specs.SignedLaws.{signed-unsigned, unsigned-lt, mag-signed}
 use Rattle.number.specs.Number.{Value, near, above, below, twos, Row, row32, row247, row251, row28, row29, row255, integerRows, lastRow, rowsOf, charstringRows, Found, row, noRow, on, rowOf, pairOf, valueBy, operandBy, Number, numberBy, readBy}
 use Rattle.number.specs.NumberLaws.{Every, every-found, row-range, at-near, at-above, at-below, at-short, at-last, read-some}
-use Rattle.number.specs.Written.{same, has, form, formBy, spell, bytes}
-use Rattle.number.specs.WrittenLaws.{less-139, after-form, spell-here, spell-past, spelled, length-form}
+use Rattle.number.specs.Written.{same, has, form, formBy, spell, bytes, bytesBy, spelling}
+use Rattle.number.specs.WrittenLaws.{less-139, after-form, spell-here, spell-past, spelled, length-form, after-le}
 use Rattle.number.specs.declared.Operand.{Operand}
 use Rattle.number.specs.declared.write.Form.{Form}
 
@@ -347,3 +347,34 @@ read-16 s bytes-of-s x e f =
     let has-it = has-is (r .by) (x .operand) (its-row false s bytes-of-s x e r) in
     let n = every-found Narrow (r .by) (getD s 0 0) charstringRows narrow (r .found) (has-it .0 ∙ f) (x .operand .value) (has-it .1) in
     omega arith
+
+-- ---- the same of an operand's bytes, without naming its form
+
+-- a row of the table has the operand
+pub record Spellable (dict : Bool) (o : Operand) : Type 0 where
+  pub form : Form
+  pub is : accepted form ≡ spell (rowsOf dict) o
+
+module _ (dict : Bool) (o : Operand) (p : Spellable dict o) where
+  spelling-is : spelling (rowsOf dict) o ≡ bytes (p .form)
+  unfolding spelling bytesBy
+  spelling-is = rw (← p .is)
+
+  pub read-spelling : (rest : List ℕ)
+      → readBy (rowsOf dict) (spelling (rowsOf dict) o ++ rest) ≡ accepted (record { operand = o; width = length (spelling (rowsOf dict) o) })
+  read-spelling rest = rw spelling-is (read-written dict o (p .form) (p .is) rest)
+
+  pub spelling-some : 0 < length (spelling (rowsOf dict) o)
+  spelling-some = rw spelling-is (omega (arith, length-form (p .form)))
+
+pub spelling-most : (dict : Bool) (o : Operand) → length (spelling (rowsOf dict) o) ≤ 5
+unfolding spelling bytesBy
+spelling-most dict o = go (spell (rowsOf dict) o) refl
+  where
+    go : (a : Answer Form) → spell (rowsOf dict) o ≡ a → length (bytesBy a) ≤ 5
+    go (accepted f) e = omega (arith, length-form f, after-le dict o f (sym e))
+    go (refused n v) e = zero-le
+
+-- an operand that was read can be written
+pub read-spellable : (dict : Bool) (s : List ℕ) → ((i : ℕ) → getD s i 0 < 256) → (x : Number) → accepted x ≡ readBy (rowsOf dict) s → Spellable dict (x .operand)
+read-spellable dict s bytes-of-s x e = let t = shortest dict s bytes-of-s x e in record { form = t .form; is = t .is }

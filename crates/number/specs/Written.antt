@@ -51,6 +51,14 @@ spell (r ∷ rs) o = cond (has r o) (accepted (formBy (r .value) r (o .value))) 
 unfoldable pub bytes : Form → List ℕ
 bytes f = f .first ∷ bytesOf (f .after) (f .rest)
 
+-- the bytes that an operand is written in; none where no row has it
+unfoldable pub bytesBy : Answer Form → List ℕ
+bytesBy (accepted f) = bytes f
+bytesBy (refused n v) = []
+
+unfoldable pub spelling : List Row → Operand → List ℕ
+spelling rows o = bytesBy (spell rows o)
+
 -- refused: nothing changes; else the number's bytes come first and the rest stays, or 13 with the length that is needed
 unfoldable pub place : Answer Form → List ℕ → Outcome
 place (refused n v) out = record { answer = refused n v; left = out }
