@@ -1,8 +1,8 @@
 // The C functions, thin over the crates below. Each answers 0 or a refusal's number of document 01,
 // and leaves a place for a value that the answer does not give as it was.
-use number::call_index;
 use number::Operand;
 use number::Whole;
+use number::call_index;
 ghost use mathlib.Core.Path.{_≡_};
 ghost use Rattle.number.specs.Call.{callIndex};
 ghost use Rattle.ighzamrel.specs.Told.{nonzero, told, tell};

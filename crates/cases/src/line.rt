@@ -1,0 +1,100 @@
+// A line as an operation makes it: document 01's number and the values, and what follows of the
+// room. A struct by value, so that an operation has nothing to do with output.
+use crate::arguments::first;
+use crate::room::changed;
+
+pub(crate) struct Line {
+    // The number and the values, which are `length` bytes.
+    pub(crate) text: [u8; 128],
+    pub(crate) length: usize,
+    // Whether the first `shown` bytes of the room follow.
+    pub(crate) hex: bool,
+    pub(crate) shown: usize,
+    // Whether a byte of the room that is not reported was changed.
+    pub(crate) marked: bool,
+}
+
+impl Line {
+    // The line of a record that asks for nothing.
+    pub(crate) fn unasked() -> Self {
+        Line::empty().put(b'?')
+    }
+
+    // The line that starts with a number of document 01: 0, or a refusal's.
+    pub(crate) fn of(number: u64) -> Self {
+        Line::empty().decimal(number)
+    }
+
+    pub(crate) fn value(self, n: u64) -> Self {
+        self.put(b' ').decimal(n)
+    }
+
+    pub(crate) fn signed_value(self, z: i32) -> Self {
+        if z < 0 {
+            return self.put(b' ').put(b'-').decimal(magnitude(z));
+        }
+        self.value(magnitude(z))
+    }
+
+    // The answer reports the first n bytes of the room that it was lent, and HEX shows them: no byte
+    // that was not lent, whatever the answer says.
+    pub(crate) fn shows(mut self, n: usize, room: &[u8]) -> Self {
+        let reported = first(n, room);
+        self.hex = true;
+        self.shown = reported.len();
+        self.marked = changed(n, room);
+        self
+    }
+
+    // The answer reports no byte of the room that it was lent.
+    pub(crate) fn keeps(mut self, room: &[u8]) -> Self {
+        self.marked = changed(0, room);
+        self
+    }
+
+    fn empty() -> Self {
+        let text = [0u8; 128];
+        Line {
+            text: text,
+            length: 0,
+            hex: false,
+            shown: 0,
+            marked: false,
+        }
+    }
+
+    fn decimal(self, n: u64) -> Self {
+        let mut digits = [0u8; 20];
+        let count = io::decimal(n, &mut digits);
+        self.put_all(&digits[..count])
+    }
+
+    fn put_all(self, s: &[u8]) -> Self {
+        let mut line = self;
+        let mut i = 0;
+        while i < s.len() {
+            line = line.put(s[i]);
+            i += 1;
+        }
+        line
+    }
+
+    // Where the text is full, the byte is left out: a number and five values always fit.
+    fn put(mut self, b: u8) -> Self {
+        let at = self.length;
+        if at < 128 {
+            self.text[at] = b;
+            self.length = at + 1;
+        }
+        self
+    }
+}
+
+// The magnitude of z. One more than the least i32 can be negated.
+fn magnitude(z: i32) -> u64 {
+    if z < 0 {
+        (-(z + 1)) as u32 as u64 + 1
+    } else {
+        z as u32 as u64
+    }
+}

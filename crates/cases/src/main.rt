@@ -1,0 +1,78 @@
+// The public functions on any bytes: one record in from standard input, one line out to standard
+// output. A record is a 4-byte length N and N bytes, the operation and its arguments; `answer` has
+// the operations. `?` is the line of a record that asks for nothing: its arguments do not fill it,
+// its operation is unknown, a kind or a profile is neither 0 nor 1, or it or its room is over the
+// limit. Input that ends inside a record gives `?` and the end.
+mod arguments;
+mod input;
+mod line;
+mod numbers;
+mod output;
+mod room;
+
+use crate::arguments::first;
+use crate::input::Next;
+use crate::input::next_record;
+use crate::line::Line;
+use crate::output::write_line;
+ghost use mathlib.Core.Path.{_≡_};
+ghost use lib.ListN.{length};
+
+// The limits of a record's N and of a room are the lengths of these two. They stand on the stack,
+// which has to hold some 2.2 million bytes.
+fn main() {
+    let mut buffer = mebibyte();
+    let mut room = mebibyte();
+    let mut text = io::large_buffer();
+    answer_all(&mut buffer, &mut room, &mut text);
+}
+
+// 1,048,576 zeros. The `ensures` gives only the length, which lending the array as a slice needs.
+fn mebibyte() -> [u8; 1048576]
+    ensures { λ r. ⌜ 1048576 ≡ length r ⌝ }
+{
+    [0; 1048576]
+}
+
+// A proved loop has to end, and nothing says that the input does. So the records are counted down,
+// from a number that no input uses up.
+fn answer_all(buffer: &mut [u8], room: &mut [u8], text: &mut [u8]) {
+    let mut records = u64::MAX;
+    while records > 0 && answer_next(buffer, room, text) {
+        records -= 1;
+    }
+}
+
+// Reads a record, writes its line, and answers whether to go on: not where the input ended, nor
+// where the line did not go out.
+fn answer_next(buffer: &mut [u8], room: &mut [u8], text: &mut [u8]) -> bool {
+    match next_record(buffer) {
+        Next::Record(n) => {
+            let line = answer(first(n, buffer), room);
+            write_line(line, room, text)
+        }
+        Next::Broken => {
+            write_line(Line::unasked(), room, text);
+            false
+        }
+        Next::End => false,
+    }
+}
+
+// The line of a record.
+fn answer(asked: &[u8], room: &mut [u8]) -> Line {
+    if asked.len() == 0 {
+        return Line::unasked();
+    }
+    let operation = asked[0];
+    let args = &asked[1..];
+    match operation {
+        1 => numbers::read_charstring_number(args),
+        2 => numbers::read_dict_integer(args),
+        3 => numbers::write_charstring_number(args, room),
+        4 => numbers::write_dict_integer(args, room),
+        9 => numbers::call_index(args),
+        10 => numbers::callee(args),
+        _ => Line::unasked(),
+    }
+}
