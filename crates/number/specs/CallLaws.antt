@@ -1,18 +1,19 @@
 -- The laws of a call's index and of its entry. Assumes nothing.
 use mathlib.Core.Path.{_≡_, refl, sym, ap, subst, _∙_}
 use mathlib.Core.Bool.{Bool, true, false, cond, _||_}
-use mathlib.Core.List.{[]}
+use mathlib.Core.List.{List, []}
+use mathlib.Core.Logic.{_⊎_, inl, inr}
 use Prim.Native.Nat.{ℕ, zero, suc, _+_, _-_, _*_, _/_, _<_, _≤_, _^_}
 use native.Mathlib.Nat.{zero-add, suc-add}
 use native.Mathlib.Numerals.{add-one}
 use native.Mathlib.Omega.{arith}
-use lib.IntN.{ℤ, pos, negsuc, negℤ, _+ℤ_}
+use lib.IntN.{ℤ, pos, negsuc, negℤ, natAbs, _+ℤ_}
 use lib.Count.{leadingZeros}
-use lib.Dec.{leb, eqb, leb·zero}
+use lib.Dec.{leb, ltb, eqb, leb·zero}
 use lib.Pow.{pow-add, shl-shr}
-use borrow.Author.Tests.{le-leb, lt-leb, lt-ltb, le-ltb, eq-eqb, ne-eqb}
+use borrow.Author.Tests.{le-leb, lt-leb, lt-ltb, le-ltb, eq-eqb, ne-eqb, eqb-true}
 use Rattle.number.specs.Answer.{Answer, accepted, refused}
-use Rattle.number.specs.Call.{bitLength, nearest, off, counts, callIndex, biasOf, entryOf, biased, callee}
+use Rattle.number.specs.Call.{bitLength, nearest, off, counts, signedAs, callIndex, biasOf, entryOf, biased, callee}
 use Rattle.number.specs.declared.Operand.{Operand}
 use Rattle.number.specs.declared.call.Part.{Part}
 use Rattle.number.specs.declared.call.Part.the-variants.{Units, Broken}
@@ -152,3 +153,55 @@ module _ (exact : Bool) (count : ℕ) (o : Operand) where
       pub down-past : n < by → count ≤ by - n - 1 → refused 9 [] ≡ callee exact count o
       unfolding entryOf
       down-past h k = rw (← to-entry, v, le-ltb by (suc n) h, same, le-ltb (by - n - 1) count k)
+
+-- ---- a call is refused with 7 or with 9
+
+index-refusal : (t : Bool) (x y : ℤ) (n : ℕ) (v : List ℕ) (u : Bool) → cond u (cond t (accepted x) (refused 7 [])) (accepted y) ≡ refused n v → n ≡ 7
+index-refusal true x y n v true e = let z : _≡_ {A = ℕ} 0 1 = cc in absurd (omega arith)
+index-refusal false x y n v true e = cc
+index-refusal t x y n v false e = let z : _≡_ {A = ℕ} 0 1 = cc in absurd (omega arith)
+
+pub callee-refusal : (exact : Bool) (count : ℕ) (o : Operand) (n : ℕ) (v : List ℕ) → callee exact count o ≡ refused n v → (n ≡ 7) ⊎ (n ≡ 9)
+unfolding callee biased callIndex entryOf
+callee-refusal exact count o n v e = go (callIndex exact o) refl e
+  where
+    entry : (z : ℤ) → entryOf count z ≡ refused n v → n ≡ 9
+    entry (pos k) q = below (ltb k count) q
+      where
+        below : (t : Bool) → cond t (accepted k) (refused 9 []) ≡ refused n v → n ≡ 9
+        below true q = let z : _≡_ {A = ℕ} 0 1 = cc in absurd (omega arith)
+        below false q = cc
+    entry (negsuc k) q = cc
+    go : (a : Answer ℤ) → callIndex exact o ≡ a → biased count a ≡ refused n v → (n ≡ 7) ⊎ (n ≡ 9)
+    go (accepted z) p q = inr (entry (z +ℤ pos (biasOf count)) q)
+    go (refused m w) p q =
+        let same : m ≡ n = cc in
+        let a = natAbs (o .value) in
+        inl (sym same ∙ index-refusal (counts exact a) (signedAs (o .value) (nearest a)) (o .value) m w (o .fixed) p)
+
+-- ---- what counts exactly counts as f32 has it too
+
+exact-counts : (m : ℕ) → counts true m ≡ true → counts false m ≡ true
+unfolding counts
+exact-counts m e = rw (eqb-true (off m) 0 e) (exactly (leb (bitLength 32 m) 24) (2 ^ (bitLength 32 m - 24)))
+
+exact-index : (o : Operand) (z : ℤ) → callIndex true o ≡ accepted z → callIndex false o ≡ accepted z
+unfolding callIndex
+exact-index o z e = go (o .fixed) (counts true (natAbs (o .value))) refl e
+  where
+    m : ℕ
+    m = natAbs (o .value)
+    go : (f t : Bool) → counts true m ≡ t → cond f (cond t (accepted (signedAs (o .value) (nearest m))) (refused 7 [])) (accepted (o .value)) ≡ accepted z
+        → cond f (cond (counts false m) (accepted (signedAs (o .value) (nearest m))) (refused 7 [])) (accepted (o .value)) ≡ accepted z
+    go true true h e = rw (exact-counts m h) e
+    go true false h e = let w : _≡_ {A = ℕ} 0 1 = cc in absurd (omega arith)
+    go false t h e = e
+
+-- an entry that a call finds exactly it finds anyway
+pub exact-callee : (count : ℕ) (o : Operand) (k : ℕ) → callee true count o ≡ accepted k → callee false count o ≡ accepted k
+unfolding callee biased
+exact-callee count o k e = go (callIndex true o) refl e
+  where
+    go : (a : Answer ℤ) → callIndex true o ≡ a → biased count a ≡ accepted k → biased count (callIndex false o) ≡ accepted k
+    go (accepted z) h q = rw (exact-index o z h) q
+    go (refused n v) h q = let w : _≡_ {A = ℕ} 0 1 = cc in absurd (omega arith)

@@ -1,0 +1,86 @@
+-- Each public function's contract fixes its result: any two results that it allows for the same arguments are one. Stated over the
+-- contracts' own readings. Assumes nothing.
+use mathlib.Core.Path.{_≡_, refl, sym, ap, _∙_}
+use mathlib.Core.Bool.{cond}
+use lib.Dec.{eqb}
+use borrow.Fn.Kinds.{Dens, resT, endedOf}
+use contract.Lifetimes.{Lfts}
+use denote.Triple.Clauses.{AtExit}
+use Rattle.number.specs.Answer.{Answer, accepted, refused}
+use Rattle.index.specs.Index.{Extent, Place, Part, indexRead, entryRead}
+use Rattle.index.specs.Formed.{Formation, yes, unread, emptied, bad, formed}
+use Rattle.index.specs.declared.read.IndexRead.{IndexRead}
+use Rattle.index.specs.declared.read.IndexRead.the-variants.{Read, Lacking, BadSize}
+use Rattle.index.specs.declared.entry.EntryRead.{EntryRead}
+use Rattle.index.specs.declared.entry.EntryRead.the-variants.{Entry, Lacking as NoBytes, BadSize as NoSize, Absent}
+use Rattle.index.specs.declared.list.Formed.{Formed}
+use Rattle.index.specs.declared.list.Formed.the-variants.{Yes, Lacking as Unread, BadSize as Unsized, Emptied, Bad}
+use Rattle.index.proofs.read.read_index.Kinds as index-kinds
+use Rattle.index.proofs.read.read_index.Reads as index-reads
+use Rattle.index.proofs.entry.read_entry.Kinds as entry-kinds
+use Rattle.index.proofs.entry.read_entry.Reads as entry-reads
+use Rattle.index.proofs.entry.entry_part.Kinds as part-kinds
+use Rattle.index.proofs.entry.entry_part.Reads as part-reads
+use Rattle.index.proofs.list.well_formed.Kinds as formed-kinds
+use Rattle.index.proofs.list.well_formed.Reads as formed-reads
+
+-- what has a way back tells values apart
+one : {A B : Type 0} (say : A → B) (back : B → A) → ((a : A) → back (say a) ≡ a) → (r r′ : A) → say r ≡ say r′ → r ≡ r′
+one say back undo r r′ e = sym (undo r) ∙ ap back e ∙ undo r′
+
+-- ---- the ways back, from what an answer says to the answer
+
+index-of : Answer Extent → IndexRead
+index-of (accepted x) = Read (x .entries) (x .taken)
+index-of (refused k v) = cond (eqb k 20) Lacking BadSize
+
+index-undo : (r : IndexRead) → index-of (indexRead r) ≡ r
+unfolding index-of
+index-undo (Read n t) = refl
+index-undo Lacking = refl
+index-undo BadSize = refl
+
+entry-of : Answer Place → EntryRead
+entry-of (accepted p) = Entry (p .start) (p .size)
+entry-of (refused k v) = cond (eqb k 20) NoBytes (cond (eqb k 21) NoSize Absent)
+
+entry-undo : (r : EntryRead) → entry-of (entryRead r) ≡ r
+unfolding entry-of
+entry-undo (Entry a m) = refl
+entry-undo NoBytes = refl
+entry-undo NoSize = refl
+entry-undo Absent = refl
+
+formed-of : Formation → Formed
+formed-of (yes n) = Yes n
+formed-of (unread k) = cond (eqb k 20) Unread Unsized
+formed-of emptied = Emptied
+formed-of (bad i) = Bad i
+
+formed-undo : (r : Formed) → formed-of (formed r) ≡ r
+unfolding formed-of
+formed-undo (Yes n) = refl
+formed-undo Unread = refl
+formed-undo Unsized = refl
+formed-undo Emptied = refl
+formed-undo (Bad i) = refl
+
+-- ---- the theorems
+
+module _ (κs : Lfts 1) where
+  pub read-index-once : (a : Dens κs index-kinds.ps) (r r′ : resT index-kinds.r κs .Denot) (x x′ : AtExit (endedOf 1 index-kinds.ps index-kinds.r) κs)
+      → index-reads.Post κs a r x → index-reads.Post κs a r′ x′ → r ≡ r′
+  read-index-once a r r′ x x′ p p′ = one indexRead index-of index-undo r r′ (p ∙ sym p′)
+
+  pub read-entry-once : (a : Dens κs entry-kinds.ps) (r r′ : resT entry-kinds.r κs .Denot) (x x′ : AtExit (endedOf 1 entry-kinds.ps entry-kinds.r) κs)
+      → entry-reads.Post κs a r x → entry-reads.Post κs a r′ x′ → r ≡ r′
+  read-entry-once a r r′ x x′ p p′ = one entryRead entry-of entry-undo r r′ (p ∙ sym p′)
+
+  pub well-formed-once : (a : Dens κs formed-kinds.ps) (r r′ : resT formed-kinds.r κs .Denot) (x x′ : AtExit (endedOf 1 formed-kinds.ps formed-kinds.r) κs)
+      → formed-reads.Post κs a r x → formed-reads.Post κs a r′ x′ → r ≡ r′
+  well-formed-once a r r′ x x′ p p′ = one formed formed-of formed-undo r r′ (p ∙ sym p′)
+
+  -- of a part: where it starts and its bytes, which is all of it that the machine has
+  pub entry-part-once : (a : Dens κs part-kinds.ps) (r r′ : resT part-kinds.r κs .Denot) (x x′ : AtExit (endedOf 1 part-kinds.ps part-kinds.r) κs)
+      → part-reads.Post κs a r x → part-reads.Post κs a r′ x′ → (r .ptr ≡ r′ .ptr) × (r .now ≡ r′ .now)
+  entry-part-once a r r′ x x′ p p′ = let e = p ∙ sym p′ in (ap (λ (q : Part). q .at) e, ap (λ (q : Part). q .bytes) e)

@@ -1,0 +1,97 @@
+-- `index::list::first_bad` meets its contract. Assumes nothing.
+use mathlib.Core.Path.{_≡_, refl, _∙_}
+use Prim.Native.Nat.{_+_, _-_, _≤_, _<_}
+use native.Mathlib.Omega.{arith}
+use lib.ListN.{getD}
+use borrow.Author.Needs.{needs}
+use Rattle.index.specs.FormedLaws.{none-left, next-entry, bad-entry, from-first}
+use Rattle.index.specs.IndexLaws.{size-there, zero-offset, descends, passes, present}
+use Rattle.index.specs.OffsetLaws.{start-mono}
+use Rattle.index.specs.Formed.{entriesFrom, formation}
+use Rattle.index.specs.Index.{offset}
+use Rattle.index.proofs.list.first_bad.Statement.{statement}
+use Rattle.index.proofs.list.first_bad.Tie as tie
+
+abbrev Inv-loop : tie.InvT-loop
+Inv-loop s count size mask last before₀ i₀ before i = (i ≤ count) × (before ≡ offset 2 s (getD s 2 0) i) × (0 < before) × (entriesFrom 2 s i (count - i) ≡ formation 2 s)
+
+abbrev μ-loop : tie.MeasureT-loop
+μ-loop s count size mask last before₀ i₀ before i = count - i
+
+shared-slice-read-size : tie.Need-shared-slice-read-size Inv-loop μ-loop
+shared-slice-read-size c = let h = size-there (c .before .before .pre .head) in omega arith
+
+cast-size : tie.Need-cast-size Inv-loop μ-loop
+cast-size c = omega (arith, c .shared-slice-known2 .given 2)
+
+mask-of-requires : tie.Need-mask-of-requires Inv-loop μ-loop
+mask-of-requires c κs = omega arith
+
+offset-at-requires : tie.Need-offset-at-requires Inv-loop μ-loop
+offset-at-requires c κs = (c .mask-of .ensures, c .before .before .before .pre .head .offsets)
+
+offset-at-requires-2 : tie.Need-offset-at-requires-2 Inv-loop μ-loop
+offset-at-requires-2 c κs = (c .before .mask-of .ensures, omega (arith, start-mono 2 {i = 0} {n = c .before .before .before .before .args .count} (getD (c .before .before .before .before .args .s .now) 2 0) (omega arith)))
+
+returns : tie.Need-returns Inv-loop μ-loop
+returns c =
+    let f = c .before .before .before .before .before .before .pre in
+    bad-entry _ _ (f .head .some) 25 (zero-offset _ _ _ f (c .before .offset-at2 .ensures .0) refl (omega arith)) ∙ from-first _ _ f
+
+loop-holds : tie.Need-loop-holds Inv-loop μ-loop
+loop-holds c = (omega arith, c .before .offset-at2 .ensures .0, omega arith, from-first _ _ (c .before .before .before .before .before .before .pre))
+
+cast-offset-at : tie.Need-cast-offset-at Inv-loop μ-loop
+cast-offset-at c = search needs
+
+add-offset-at : tie.Need-add-offset-at Inv-loop μ-loop
+add-offset-at c = search needs
+
+offset-at-requires-3 : tie.Need-offset-at-requires-3 Inv-loop μ-loop
+offset-at-requires-3 c κs =
+    let a = c .before .before .before .before .before .before .before .before .args in
+    (c .before .before .before .before .before .mask-of .ensures, omega (arith, start-mono 2 {i = c .before .loop .i + 1} {n = a .count} (getD (a .s .now) 2 0) (omega arith)))
+
+returns-2 : tie.Need-returns-2 Inv-loop μ-loop
+returns-2 c =
+    bad-entry _ _ (omega arith) 25 (descends _ _ _ (c .before .before .before .before .before .before .before .before .before .before .pre) (c .before .before .before .loop .inv .1) (c .before .offset-at3 .ensures .0) (omega arith)) ∙ c .before .before .before .loop .inv .3
+
+returns-3 : tie.Need-returns-3 Inv-loop μ-loop
+returns-3 c =
+    bad-entry _ _ (omega arith) 25 (passes _ _ _ (c .before .before .before .before .before .before .before .before .before .before .before .pre) (c .before .before .before .before .loop .inv .1) (c .before .before .offset-at3 .ensures .0) (omega arith)) ∙ c .before .before .before .before .loop .inv .3
+
+add-i : tie.Need-add-i Inv-loop μ-loop
+add-i c = search needs
+
+loop-less : tie.Need-loop-less Inv-loop μ-loop
+loop-less c = search needs
+
+loop-again : tie.Need-loop-again Inv-loop μ-loop
+loop-again c =
+    (omega arith, c .before .before .offset-at3 .ensures .0, omega arith, next-entry _ _ (omega arith) (present _ _ _ (c .before .before .before .before .before .before .before .before .before .before .before .pre) (c .before .before .before .before .loop .inv .1) (c .before .before .offset-at3 .ensures .0) (omega arith) (omega arith) (omega arith) (omega arith) refl refl) ∙ c .before .before .before .before .loop .inv .3)
+
+returns-4 : tie.Need-returns-4 Inv-loop μ-loop
+returns-4 c = none-left _ _ (omega arith) ∙ c .before .loop .inv .3
+
+pub first-bad-spec : {M : Type 1} → statement M
+first-bad-spec =
+    tie.close
+    (tie.spec
+    Inv-loop
+    μ-loop
+    shared-slice-read-size
+    cast-size
+    mask-of-requires
+    offset-at-requires
+    offset-at-requires-2
+    returns
+    loop-holds
+    cast-offset-at
+    add-offset-at
+    offset-at-requires-3
+    returns-2
+    returns-3
+    add-i
+    loop-less
+    loop-again
+    returns-4)

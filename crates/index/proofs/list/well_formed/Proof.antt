@@ -1,0 +1,62 @@
+-- `index::list::well_formed` meets its contract. Assumes nothing.
+use mathlib.Core.Path.{_≡_, sym, ap, _∙_}
+use native.Mathlib.Omega.{arith}
+use borrow.Author.Needs.{needs}
+use Rattle.index.specs.FormedLaws.{not-read, no-entries, fewer}
+use Rattle.index.specs.IndexLaws.{has, count-there, entries-full}
+use Rattle.index.specs.Index.{extent, indexRead}
+use Rattle.index.proofs.list.well_formed.Statement.{statement}
+use Rattle.index.proofs.list.well_formed.Tie as tie
+
+-- where the INDEX is read
+read : (c : tie.After-count) → has (c .count .given .0 .0) (c .count .given .0 .1 .0) ≡ extent 2 (c .before .before .before .before .args .s .now)
+read c = ap indexRead (sym (c .count .given .1)) ∙ c .before .before .read-index .ensures
+
+read-index-requires : tie.Need-read-index-requires
+read-index-requires c κs = search needs
+
+enum-told : tie.Need-enum-told
+enum-told c = search needs
+
+enum-told-2 : tie.Need-enum-told-2
+enum-told-2 c = search needs
+
+enum-known-count : tie.Need-enum-known-count
+enum-known-count c = search needs
+
+first-bad-requires : tie.Need-first-bad-requires
+first-bad-requires c κs = entries-full 2 _ _ _ (read (c .before .before)) (omega arith) .0
+
+returns : tie.Need-returns
+returns c = search needs
+
+count-at-requires : tie.Need-count-at-requires
+count-at-requires c κs = count-there 2 _ _ _ (read (c .before .before))
+
+returns-2 : tie.Need-returns-2
+returns-2 c = no-entries _ _ (read (c .before .before .before .before)) (omega arith) (omega arith)
+
+returns-3 : tie.Need-returns-3
+returns-3 c = not-read _ _ 20 (ap indexRead (sym (c .enum-told .given .1)) ∙ c .before .before .read-index .ensures)
+
+returns-4 : tie.Need-returns-4
+returns-4 c = not-read _ _ 21 (ap indexRead (sym (c .enum-told2 .given .1)) ∙ c .before .before .read-index .ensures)
+
+returns-5 : tie.Need-returns-5
+returns-5 c = fewer _ _ (read (c .before .before .before .before)) (λ e. omega arith)
+
+pub well-formed-spec : {M : Type 1} → statement M
+well-formed-spec =
+    tie.close
+    (tie.spec
+    read-index-requires
+    enum-told
+    enum-told-2
+    enum-known-count
+    first-bad-requires
+    returns
+    count-at-requires
+    returns-2
+    returns-3
+    returns-4
+    returns-5)

@@ -1,0 +1,44 @@
+-- Document 01's INDEXes and those at its edges, by the definitions. Assumes nothing.
+use mathlib.Core.Path.{_≡_, refl}
+use mathlib.Core.List.{List, [], _∷_}
+use Prim.Native.Nat.{ℕ}
+use Rattle.number.specs.Answer.{refused}
+use Rattle.number.specs.BigEndian.{beAt}
+use Rattle.index.specs.Index.{offset, byLast, bySize, byCount, extent, absent, placeBy, placeIn, place, bytesBy, part}
+use Rattle.index.specs.Formed.{yes, unread, emptied, bad, entriesFrom, formedBy, formation}
+use Rattle.index.specs.IndexLaws.{has, lies}
+
+-- the elements `0E` and empty
+abbrev two : List ℕ
+two = 0 ∷ 2 ∷ 1 ∷ 1 ∷ 2 ∷ 2 ∷ 0x0E ∷ []
+
+-- a last offset of 0, though the offsets of entry 0 look present
+abbrev none : List ℕ
+none = 0 ∷ 2 ∷ 1 ∷ 1 ∷ 1 ∷ 0 ∷ []
+
+-- a first offset that is not 1; and an empty entry at the very end
+abbrev late : List ℕ
+late = 0 ∷ 1 ∷ 1 ∷ 2 ∷ 3 ∷ 0x8C ∷ 0x0B ∷ []
+
+abbrev end : List ℕ
+end = 0 ∷ 1 ∷ 1 ∷ 3 ∷ 3 ∷ 0xAA ∷ 0xBB ∷ []
+
+-- offsets of two bytes, of which the second pair descends
+abbrev back : List ℕ
+back = 0 ∷ 3 ∷ 2 ∷ 0 ∷ 1 ∷ 0 ∷ 3 ∷ 0 ∷ 2 ∷ 0 ∷ 3 ∷ 7 ∷ 8 ∷ 9 ∷ []
+
+pub reads : (extent 2 two ≡ has 2 7) × (extent 2 none ≡ has 0 6) × (extent 2 (0 ∷ 0 ∷ 7 ∷ []) ≡ has 0 2) × (extent 2 [] ≡ refused 20 []) × (extent 2 (0 ∷ 1 ∷ 5 ∷ []) ≡ refused 21 []) × (extent 2 back ≡ has 3 13)
+unfolding extent byCount bySize byLast offset beAt
+reads = (refl, refl, refl, refl, refl, refl)
+
+pub entries : (place 2 two 1 ≡ lies 7 0) × (place 2 two 2 ≡ refused 25 []) × (place 2 none 0 ≡ refused 25 []) × (place 2 late 0 ≡ lies 6 1) × (place 2 end 0 ≡ lies 7 0) × (place 2 back 1 ≡ refused 25 [])
+unfolding place placeIn placeBy absent extent byCount bySize byLast offset beAt
+entries = (refl, refl, refl, refl, refl, refl)
+
+pub parts : (part 2 two 0 ≡ 0x0E ∷ []) × (part 2 late 0 ≡ 0x0B ∷ []) × (part 2 two 2 ≡ [])
+unfolding part bytesBy place placeIn placeBy absent extent byCount bySize byLast offset beAt
+parts = (refl, refl, refl)
+
+pub lists : (formation 2 two ≡ yes 2) × (formation 2 none ≡ emptied) × (formation 2 late ≡ yes 1) × (formation 2 (0 ∷ 0 ∷ []) ≡ yes 0) × (formation 2 [] ≡ unread 20) × (formation 2 back ≡ bad 1)
+unfolding formation formedBy entriesFrom place placeIn placeBy absent extent byCount bySize byLast offset beAt
+lists = (refl, refl, refl, refl, refl, refl)

@@ -1,0 +1,353 @@
+-- The laws of an INDEX: what reading it and an entry of it answers, and what an answer says. Assumes nothing.
+use mathlib.Core.Path.{_≡_, refl, sym, ap, _∙_}
+use mathlib.Core.List.{List, []}
+use mathlib.Core.Bool.{Bool, true, false, cond, _||_, true≢false}
+use Prim.Native.Nat.{ℕ, _+_, _-_, _<_, _≤_}
+use native.Mathlib.Omega.{arith}
+use lib.ListN.{length, getD, take, drop, length-drop}
+use lib.Seq.{length-take-le}
+use lib.Dec.{leb, ltb, eqb}
+use borrow.Author.Tests.{lt-ltb, le-ltb, le-leb, lt-leb, eq-eqb, ne-eqb, ltb-false, leb-false, eqb-true, eqb-false}
+use Rattle.number.specs.Answer.{Answer, accepted, refused}
+use Rattle.number.specs.BigEndian.{beAt}
+use Rattle.index.specs.Index.{Extent, Place, dataStart, offset, byLast, bySize, byCount, extent, absent, placeBy, placeIn, place, bytesBy, part, startBy, partAt}
+use Rattle.index.specs.OffsetLaws.{start-is}
+
+-- an accepted read, and an accepted entry
+abbrev pub has : ℕ → ℕ → Answer Extent
+has n t = accepted (record { entries = n; taken = t })
+
+abbrev pub lies : ℕ → ℕ → Answer Place
+lies a m = accepted (record { start = a; size = m })
+
+-- ---- tests
+
+or-true : (t : Bool) → t || true ≡ true
+or-true true = refl
+or-true false = refl
+
+or-none : (a b : Bool) → a || b ≡ false → (a ≡ false) × (b ≡ false)
+or-none true b e = absurd (true≢false e)
+or-none false b e = (refl, e)
+
+same : {A : Type 0} {x y : A} → accepted x ≡ accepted y → x ≡ y
+same e = cc
+
+pub not-refused : {A : Type 0} {x : A} {k : ℕ} {v : List ℕ} → accepted x ≡ refused k v → ⊥
+not-refused e = let z : _≡_ {A = ℕ} 0 1 = cc in omega arith
+
+past : {A : Type 0} (t : Bool) (k : ℕ) (x : Answer A) {y : A} → accepted y ≡ cond t (refused k []) x → (t ≡ false) × (accepted y ≡ x)
+past true k x e = absurd (not-refused e)
+past false k x e = (refl, e)
+
+-- ---- what the bytes of an INDEX are
+
+-- an offset, and where the data of n entries start, with the offset size that the size byte gives
+abbrev pub offsetOf : ℕ → List ℕ → ℕ → ℕ
+offsetOf w s i = offset w s (getD s w 0) i
+
+abbrev pub dataOf : ℕ → List ℕ → ℕ → ℕ
+dataOf w s n = dataStart w n (getD s w 0)
+
+-- The count is n, not 0, and the size byte and all offsets are there.
+pub record Headed (w : ℕ) (s : List ℕ) (n : ℕ) : Type 0 where
+  pub count : n ≡ beAt s 0 w
+  pub some : 0 < n
+  pub size-pos : 0 < getD s w 0
+  pub size-le : getD s w 0 ≤ 4
+  pub offsets : dataOf w s n ≤ length s
+
+pub size-there : {w : ℕ} {s : List ℕ} {n : ℕ} → Headed w s n → w + 1 ≤ length s
+size-there {w} {s} {n} h = omega (arith, start-is w n (getD s w 0))
+
+-- where an INDEX with n entries ends: the last offset is one more than the data's length
+abbrev pub reach : ℕ → List ℕ → ℕ → ℕ
+reach w s n = dataOf w s n + (offsetOf w s n - 1)
+
+-- It has entries, n of them, and all of their data.
+pub record Full (w : ℕ) (s : List ℕ) (n : ℕ) : Type 0 where
+  pub head : Headed w s n
+  pub last-pos : 0 < offsetOf w s n
+  pub inside : reach w s n ≤ length s
+
+-- What a read that is accepted with n entries and t bytes has found.
+pub data Shape (w : ℕ) (s : List ℕ) (n t : ℕ) : Type 0 where
+  none : w ≤ length s → beAt s 0 w ≡ 0 → n ≡ 0 → t ≡ w → Shape w s n t
+  emptied : {m : ℕ} → Headed w s m → offsetOf w s m ≡ 0 → n ≡ 0 → t ≡ dataOf w s m → Shape w s n t
+  full : Full w s n → t ≡ reach w s n → Shape w s n t
+
+-- ---- reading
+
+module _ (w : ℕ) (s : List ℕ) where
+  pub no-count : length s < w → refused 20 [] ≡ extent w s
+  unfolding extent
+  no-count h = rw (lt-ltb (length s) w h)
+
+  to-count : (n : ℕ) → n ≡ beAt s 0 w → w ≤ length s → byCount w s n ≡ extent w s
+  unfolding extent
+  to-count n e h = rw (e, le-ltb (length s) w h)
+
+  module _ {n : ℕ} (e : n ≡ beAt s 0 w) where
+    pub count-zero : w ≤ length s → n ≡ 0 → has 0 w ≡ extent w s
+    unfolding byCount
+    count-zero h z = let t : has 0 w ≡ byCount w s n = rw (eq-eqb n 0 z) in t ∙ to-count n e h
+
+    module _ (some : 0 < n) where
+      n≢ : n ≡ 0 → ⊥
+      n≢ z = omega arith
+
+      pub no-size : w ≤ length s → length s < w + 1 → refused 20 [] ≡ extent w s
+      unfolding byCount
+      no-size h k =
+          let t : refused 20 [] ≡ byCount w s n = rw (ne-eqb n 0 n≢, lt-ltb (length s) (w + 1) k) in t ∙ to-count n e h
+
+      module _ (h : w + 1 ≤ length s) where
+        to-size : bySize w s n (getD s w 0) ≡ extent w s
+        unfolding byCount
+        to-size =
+            let t : bySize w s n (getD s w 0) ≡ byCount w s n = rw (ne-eqb n 0 n≢, le-ltb (length s) (w + 1) h) in
+            t ∙ to-count n e (omega arith)
+
+        pub size-zero : getD s w 0 ≡ 0 → refused 21 [] ≡ extent w s
+        unfolding bySize
+        size-zero z = let t : refused 21 [] ≡ bySize w s n (getD s w 0) = rw (eq-eqb (getD s w 0) 0 z) in t ∙ to-size
+
+        pub size-big : 4 < getD s w 0 → refused 21 [] ≡ extent w s
+        unfolding bySize
+        size-big k = let t : refused 21 [] ≡ bySize w s n (getD s w 0) = rw (lt-ltb 4 (getD s w 0) k, or-true) in t ∙ to-size
+
+        pub no-offsets : 0 < getD s w 0 → getD s w 0 ≤ 4 → length s < dataOf w s n → refused 20 [] ≡ extent w s
+        unfolding bySize
+        no-offsets p k l =
+            let z≢ : getD s w 0 ≡ 0 → ⊥ = λ z. omega arith in
+            let t : refused 20 [] ≡ bySize w s n (getD s w 0) = rw (ne-eqb (getD s w 0) 0 z≢, le-ltb 4 (getD s w 0) k, lt-ltb (length s) (dataOf w s n) l) in
+            t ∙ to-size
+
+  module _ {n : ℕ} (h : Headed w s n) where
+    to-last : byLast s n (dataOf w s n) (offsetOf w s n) ≡ extent w s
+    unfolding bySize
+    to-last =
+        let z = getD s w 0 in
+        let z≢ : z ≡ 0 → ⊥ = λ e. omega arith in
+        let t : byLast s n (dataStart w n z) (offset w s z n) ≡ bySize w s n z = rw (ne-eqb z 0 z≢, le-ltb 4 z (h .size-le), le-ltb (length s) (dataStart w n z) (h .offsets)) in
+        t ∙ to-size (h .count) (h .some) (omega (arith, start-is w n z))
+
+    pub last-zero : offsetOf w s n ≡ 0 → has 0 (dataOf w s n) ≡ extent w s
+    unfolding byLast
+    last-zero e =
+        let t : has 0 (dataOf w s n) ≡ byLast s n (dataOf w s n) (offsetOf w s n) = rw (eq-eqb (offsetOf w s n) 0 e) in
+        t ∙ to-last
+
+    pub no-data : 0 < offsetOf w s n → length s < reach w s n → refused 20 [] ≡ extent w s
+    unfolding byLast
+    no-data p k =
+        let l = offsetOf w s n in
+        let b = dataOf w s n in
+        let l≢ : l ≡ 0 → ⊥ = λ e. omega arith in
+        let t : refused 20 [] ≡ byLast s n b l = rw (ne-eqb l 0 l≢, lt-ltb (length s) (b + (l - 1)) k) in
+        t ∙ to-last
+
+  pub full-read : {n t : ℕ} → Full w s n → t ≡ reach w s n → has n t ≡ extent w s
+  unfolding byLast
+  full-read {n} f q =
+      let l = offsetOf w s n in
+      let b = dataOf w s n in
+      let l≢ : l ≡ 0 → ⊥ = λ e. omega arith in
+      let e : has n (b + (l - 1)) ≡ byLast s n b l = rw (ne-eqb l 0 l≢, le-ltb (length s) (b + (l - 1)) (f .inside)) in
+      ap (has n) q ∙ e ∙ to-last (f .head)
+
+-- ---- what an accepted read says
+
+abbrev entries-of : Extent → ℕ
+entries-of x = x .entries
+
+abbrev taken-of : Extent → ℕ
+taken-of x = x .taken
+
+module _ (w : ℕ) (s : List ℕ) (n t : ℕ) where
+  by-last : (m : ℕ) → Headed w s m → (z : Bool) → eqb (offsetOf w s m) 0 ≡ z
+      → has n t ≡ cond z (has 0 (dataOf w s m)) (cond (ltb (length s) (reach w s m)) (refused 20 []) (has m (reach w s m)))
+      → Shape w s n t
+  by-last m h true e a = emptied h (eqb-true _ _ e) (ap entries-of (same a)) (ap taken-of (same a))
+  by-last m h false e a =
+      let l = offsetOf w s m in
+      let l≢ : l ≡ 0 → ⊥ = eqb-false l 0 e in
+      let g = past (ltb (length s) (reach w s m)) 20 _ a in
+      let en : n ≡ m = ap entries-of (same (g .1)) in
+      let et : t ≡ reach w s m = ap taken-of (same (g .1)) in
+      rw en (full (record { head = h; last-pos = omega arith; inside = ltb-false (length s) (reach w s m) (g .0) }) et)
+
+  by-count : (z : Bool) → eqb (beAt s 0 w) 0 ≡ z → w ≤ length s
+      → has n t ≡ cond z (has 0 w) (cond (ltb (length s) (w + 1)) (refused 20 []) (bySize w s (beAt s 0 w) (getD s w 0)))
+      → Shape w s n t
+  unfolding bySize byLast
+  by-count true e h a = none h (eqb-true _ _ e) (ap entries-of (same a)) (ap taken-of (same a))
+  by-count false e h a =
+      let m = beAt s 0 w in
+      let z = getD s w 0 in
+      let m≢ : m ≡ 0 → ⊥ = eqb-false m 0 e in
+      let g = past (ltb (length s) (w + 1)) 20 _ a in
+      let sized = past (eqb z 0 || ltb 4 z) 21 _ (g .1) in
+      let there = past (ltb (length s) (dataStart w m z)) 20 _ (sized .1) in
+      let sizes = or-none (eqb z 0) (ltb 4 z) (sized .0) in
+      let z≢ : z ≡ 0 → ⊥ = eqb-false z 0 (sizes .0) in
+      let head : Headed w s m =
+      record { count = refl; some = omega arith; size-pos = omega arith; size-le = ltb-false 4 z (sizes .1); offsets = ltb-false (length s) (dataStart w m z) (there .0) } in
+      by-last m head (eqb (offset w s z m) 0) refl (there .1)
+
+  module _ (e : has n t ≡ extent w s) where
+    pub shape : Shape w s n t
+    unfolding extent byCount
+    shape =
+        let g = past (ltb (length s) w) 20 _ e in
+        by-count (eqb (beAt s 0 w) 0) refl (ltb-false (length s) w (g .0)) (g .1)
+
+    pub taken-le : t ≤ length s
+    taken-le = go shape
+      where
+        go : Shape w s n t → t ≤ length s
+        go (none h c en et) = omega arith
+        go (emptied h l en et) = omega arith
+        go (full f et) = omega arith
+
+    pub count-there : w ≤ length s
+    count-there = go shape
+      where
+        go : Shape w s n t → w ≤ length s
+        go (none h c en et) = h
+        go (emptied {m} h l en et) = omega (arith, start-is w m (getD s w 0))
+        go (full f et) = omega (arith, start-is w n (getD s w 0))
+
+    -- entries, if there are any
+    pub entries-full : 0 < n → (Full w s n) × (t ≡ reach w s n)
+    entries-full h = go shape
+      where
+        go : Shape w s n t → (Full w s n) × (t ≡ reach w s n)
+        go (none k c en et) = absurd (omega arith)
+        go (emptied k l en et) = absurd (omega arith)
+        go (full f et) = (f, et)
+
+-- ---- an entry
+
+module _ (w : ℕ) (s : List ℕ) (i : ℕ) where
+  pub not-read : (k : ℕ) → refused k [] ≡ extent w s → refused k [] ≡ place w s i
+  unfolding place placeIn
+  not-read k e = rw (← e)
+
+  pub past-count : {n t : ℕ} → has n t ≡ extent w s → n ≤ i → refused 25 [] ≡ place w s i
+  unfolding place placeIn placeBy absent
+  past-count {n} e h = rw (← e, le-leb n i h)
+
+  -- between its two offsets
+  module _ {n a b : ℕ} (f : Full w s n) (first : a ≡ offsetOf w s i) (next : b ≡ offsetOf w s (i + 1)) where
+    abbrev between : Answer Place
+    between = placeBy i (record { entries = n; taken = reach w s n }) (dataOf w s n) a b
+
+    to-place : between ≡ place w s i
+    unfolding place placeIn
+    to-place = rw (← full-read w s f refl, first, next)
+
+    pub zero-offset : a ≡ 0 → refused 25 [] ≡ place w s i
+    unfolding placeBy absent
+    zero-offset e = let t : refused 25 [] ≡ between = rw (eq-eqb a 0 e, or-true) in t ∙ to-place
+
+    pub descends : b < a → refused 25 [] ≡ place w s i
+    unfolding placeBy absent
+    descends h = let t : refused 25 [] ≡ between = simp (lt-ltb b a h, or-true) in t ∙ to-place
+
+    pub passes : reach w s n < dataOf w s n + (b - 1) → refused 25 [] ≡ place w s i
+    unfolding placeBy absent
+    passes h =
+        let t : refused 25 [] ≡ between = simp (lt-ltb (reach w s n) (dataOf w s n + (b - 1)) h, or-true) in t ∙ to-place
+
+    pub present : {x y : ℕ} → i < n → 0 < a → a ≤ b → dataOf w s n + (b - 1) ≤ reach w s n
+        → x ≡ dataOf w s n + (a - 1) → y ≡ b - a → lies x y ≡ place w s i
+    unfolding placeBy absent
+    present h p k l at long =
+        let a≢ : a ≡ 0 → ⊥ = λ e. omega arith in
+        let b≢ : b ≡ 0 → ⊥ = λ e. omega arith in
+        let d = dataOf w s n in
+        let t : lies (d + (a - 1)) (b - a) ≡ between = rw (lt-leb n i h, ne-eqb a 0 a≢, ne-eqb b 0 b≢, le-ltb b a k, le-ltb (reach w s n) (d + (b - 1)) l) in
+        rw (at, long) (t ∙ to-place)
+
+-- ---- what an entry that is present says
+
+-- It lies between offsets i and i + 1 of an INDEX with n entries: neither is 0, they do not descend, and they do not pass the data.
+pub record Held (w : ℕ) (s : List ℕ) (i n a m : ℕ) : Type 0 where
+  pub full : Full w s n
+  pub below : i < n
+  pub first-pos : 0 < offsetOf w s i
+  pub order : offsetOf w s i ≤ offsetOf w s (i + 1)
+  pub within : dataOf w s n + (offsetOf w s (i + 1) - 1) ≤ reach w s n
+  pub at : a ≡ dataOf w s n + (offsetOf w s i - 1)
+  pub long : m ≡ offsetOf w s (i + 1) - offsetOf w s i
+
+abbrev start-of : Place → ℕ
+start-of p = p .start
+
+abbrev size-of : Place → ℕ
+size-of p = p .size
+
+module _ (w : ℕ) (s : List ℕ) (i a m : ℕ) where
+  by-extent : (n t : ℕ) → has n t ≡ extent w s → lies a m ≡ placeIn w s i (has n t) → Held w s i n a m
+  unfolding placeIn placeBy absent
+  by-extent n t e h =
+      let z = getD s w 0 in
+      let u = offset w s z i in
+      let v = offset w s z (i + 1) in
+      let d = dataStart w n z in
+      let g = past (leb n i || (eqb u 0 || (eqb v 0 || (ltb v u || ltb t (d + (v - 1)))))) 25 _ h in
+      let o1 = or-none (leb n i) _ (g .0) in
+      let o2 = or-none (eqb u 0) _ (o1 .1) in
+      let o3 = or-none (eqb v 0) _ (o2 .1) in
+      let o4 = or-none (ltb v u) _ (o3 .1) in
+      let below : i < n = leb-false n i (o1 .0) in
+      let u≢ : u ≡ 0 → ⊥ = eqb-false u 0 (o2 .0) in
+      let f = entries-full w s n t e (omega arith) in
+      let ends : d + (v - 1) ≤ t = ltb-false t (d + (v - 1)) (o4 .1) in
+      record {
+        full = f .0;
+        below = below;
+        first-pos = omega arith;
+        order = ltb-false v u (o4 .0);
+        within = omega arith;
+        at = ap start-of (same (g .1));
+        long = ap size-of (same (g .1));
+      }
+
+  module _ (h : lies a m ≡ place w s i) where
+    pub held : (n : ℕ) × Held w s i n a m
+    unfolding place placeIn
+    held = go (extent w s) refl h
+      where
+        go : (x : Answer Extent) → x ≡ extent w s → lies a m ≡ placeIn w s i x → (n : ℕ) × Held w s i n a m
+        go (accepted x) e k = (x .entries, by-extent (x .entries) (x .taken) e k)
+        go (refused j v) e k = absurd (not-refused k)
+
+    -- the entry lies within the bytes
+    pub inside : a + m ≤ length s
+    inside = let d = held in let l = d .1 in omega arith
+
+    pub part-is : take m (drop a s) ≡ part w s i
+    unfolding part bytesBy
+    part-is = rw (← h)
+
+    pub part-length : length (part w s i) ≡ m
+    part-length = ap length (sym part-is) ∙ length-take-le m (drop a s) (let k = inside in simp length-drop (omega arith))
+
+    -- where it stands
+    pub part-at : (at : ℕ × ℕ) {o : ℕ} {l : List ℕ} → o ≡ at .1 + a → l ≡ take m (drop a s) → record { at = (at .0, o); bytes = l } ≡ partAt w at s i
+    unfolding startBy part bytesBy
+    part-at at p q = rw (p, q, ← h)
+
+  pub held-place : {n : ℕ} → Held w s i n a m → lies a m ≡ place w s i
+  held-place d = present w s i (d .full) refl refl (d .below) (d .first-pos) (d .order) (d .within) (d .at) (d .long)
+
+-- an entry that is refused has no bytes, and its part starts where the bytes do
+pub no-part : (w : ℕ) (s : List ℕ) (i k : ℕ) → refused k [] ≡ place w s i → [] ≡ part w s i
+unfolding part bytesBy
+no-part w s i k h = rw (← h)
+
+pub no-part-at : (w : ℕ) (s : List ℕ) (i k : ℕ) (at : ℕ × ℕ) → refused k [] ≡ place w s i → record { at = at; bytes = [] } ≡ partAt w at s i
+unfolding startBy part bytesBy
+no-part-at w s i k at h = rw (← h)

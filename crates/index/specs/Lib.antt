@@ -1,0 +1,11 @@
+pub mod Index
+pub mod Formed
+pub mod OffsetLaws
+pub mod IndexLaws
+pub mod FormedLaws
+pub mod AfterLaws
+pub mod Examples
+pub mod Writing
+pub mod WritingLaws
+pub mod WritingRoundTrip
+pub mod WritingExamples

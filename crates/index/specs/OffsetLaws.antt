@@ -1,0 +1,82 @@
+-- Offsets of each size by one rule, and where the data start. Assumes nothing.
+use mathlib.Core.Path.{_≡_, sym, ap, _∙_}
+use mathlib.Core.List.{List}
+use Prim.Native.Nat.{ℕ, zero, suc, _+_, _-_, _*_, _/_, _%_, _<_, _≤_, _^_}
+use native.Mathlib.Nat.{le-refl, add-zero, add-suc, add-assoc, add-mul, one-mul, mul-assoc, mul-le-mul, mul-le-mul-right}
+use native.Mathlib.Omega.{arith}
+use lib.Bits.{bitAnd, and-mask}
+use lib.ListN.{getD}
+use lib.Pow.{pow-add, high, low, ones-split, ones-lt}
+use Rattle.number.specs.BigEndian.{beAt}
+use Rattle.number.specs.BigEndianLaws.{be-lt}
+use Rattle.index.specs.Index.{dataStart, offset}
+
+-- ---- where the data start
+
+-- with one product, which is all that omega has to take as unknown
+pub start-is : (w n z : ℕ) → dataStart w n z ≡ w + 1 + (n * z + z)
+start-is w n z = ap (λ (x : ℕ). w + 1 + x) (add-mul n 1 z ∙ ap (λ (x : ℕ). n * z + x) (one-mul z))
+
+-- the data of fewer entries start no later
+pub start-mono : (w : ℕ) {i n : ℕ} (z : ℕ) → i ≤ n → dataStart w i z ≤ dataStart w n z
+start-mono w {i} {n} z h = omega (arith, start-is w i z, start-is w n z, mul-le-mul-right z h)
+
+-- each offset has at least one byte
+pub start-past : (w n z : ℕ) → 0 < z → w + 1 + (n + 1) ≤ dataStart w n z
+start-past w n z h = omega (arith, mul-le-mul {n₁ = n + 1} {m₁ = 1} {n₂ = n + 1} {m₂ = z} (le-refl (n + 1)) h)
+
+-- a count of 16 bits and offsets of at most four bytes
+pub product-small : {n z : ℕ} → n < 65536 → z ≤ 4 → (n + 1) * z ≤ 262144
+product-small {n} {z} h k = mul-le-mul {n₁ = n + 1} {m₁ = z} {n₂ = 65536} {m₂ = 4} (omega arith) k
+
+-- ---- a big-endian number by its last bytes
+
+-- four bytes, as the code joins them
+pub four-bytes : (s : List ℕ) (at : ℕ) {a b c d : ℕ} → a ≡ getD s at 0 → b ≡ getD s (at + 1) 0 → c ≡ getD s (at + 2) 0 → d ≡ getD s (at + 3) 0
+    → ((a * 256 + b) * 256 + c) * 256 + d ≡ beAt s at 4
+unfolding beAt
+four-bytes s at p q r t = rw (p, q, r, t, add-zero at) (omega arith)
+
+-- a number of j + k bytes is that of the first j, then that of the last k
+be-split : (s : List ℕ) (at j k : ℕ) → beAt s at (j + k) ≡ beAt s at j * 2 ^ (8 * k) + beAt s (at + j) k
+unfolding beAt
+be-split s at j zero = rw add-zero (omega arith)
+be-split s at j (suc k) =
+    let e : 8 * suc k ≡ 8 * k + 8 = omega arith in
+    let m : beAt s at j * (2 ^ (8 * k) * 256) ≡ beAt s at j * 2 ^ (8 * k) * 256 = sym (mul-assoc (beAt s at j) (2 ^ (8 * k)) 256) in
+    rw (add-suc j k, e, pow-add 2 (8 * k) 8, be-split s at j k, add-assoc at j k) (omega arith)
+
+-- the last k bytes, by a remainder
+pub last-bytes : (s : List ℕ) (at j k : ℕ) → ((i : ℕ) → getD s i 0 < 256) → beAt s at (j + k) % 2 ^ (8 * k) ≡ beAt s (at + j) k
+last-bytes s at j k bytes = rw (be-split s at j k) (low (beAt s at j) (8 * k) (be-lt s (at + j) k bytes))
+
+-- ---- an offset
+
+-- an offset size, and the mask that keeps so many low bytes
+pub record Sized (z mask : ℕ) : Type 0 where
+  pub some : 0 < z
+  pub four : z ≤ 4
+  pub ones : mask ≡ 2 ^ (8 * z) - 1
+
+module _ (w : ℕ) (s : List ℕ) (bytes : (i : ℕ) → getD s i 0 < 256) where
+  -- of every size: the low bytes of the four that end where the offset ends
+  pub offset-low : {z mask : ℕ} (i : ℕ) → 3 ≤ w + 1 → Sized z mask → bitAnd (beAt s (dataStart w i z - 4) 4) mask ≡ offset w s z i
+  unfolding offset
+  offset-low {z} {mask} i h k =
+      let e : 4 - z + z ≡ 4 = omega arith in
+      let p : dataStart w i z - 4 + (4 - z) ≡ w + 1 + i * z = omega (arith, start-is w i z) in
+      rw (k .ones, and-mask (beAt s (dataStart w i z - 4) 4) (8 * z))
+      (ap (λ (x : ℕ). beAt s (dataStart w i z - 4) x % 2 ^ (8 * z)) (sym e) ∙ last-bytes s (dataStart w i z - 4) (4 - z) z bytes ∙ ap (λ (x : ℕ). beAt s x z) p)
+
+-- a word of ones, shifted until so many bytes are left
+pub sized-shift : (z gap : ℕ) → 0 < z → z ≤ 4 → gap ≡ 8 * (4 - z) → Sized z (4294967295 / 2 ^ gap)
+sized-shift z gap h k e = record { some = h; four = k; ones = left }
+  where
+    whole : 8 * z + gap ≡ 32
+    whole = omega arith
+
+    all : 4294967295 ≡ (2 ^ (8 * z) - 1) * 2 ^ gap + (2 ^ gap - 1)
+    all = ap (λ (x : ℕ). 2 ^ x - 1) (sym whole) ∙ ones-split (8 * z) gap
+
+    left : 4294967295 / 2 ^ gap ≡ 2 ^ (8 * z) - 1
+    left = ap (λ (x : ℕ). x / 2 ^ gap) all ∙ high (2 ^ (8 * z) - 1) gap (ones-lt gap)

@@ -1,0 +1,62 @@
+// An entry of an INDEX: its place, and its bytes where they stand.
+use crate::offset::mask_of;
+use crate::offset::offset_at;
+use crate::read::IndexRead;
+use crate::read::read_index;
+ghost use mathlib.Core.Path.{_≡_};
+ghost use denote.Ref.{ptr};
+ghost use Rattle.index.specs.Index.{place, entryRead, partAt};
+
+// What reading an entry finds.
+pub enum EntryRead {
+    // Where it starts, counted from the first lent byte, and how long it is.
+    Entry(usize, usize),
+    // Bytes of the INDEX are lacking.
+    Lacking,
+    // The offset size is not 1 to 4.
+    BadSize,
+    // There is no such entry.
+    Absent,
+}
+
+// Entry `number` of the INDEX at the start of s.
+pub fn read_entry(s: &[u8], number: u32) -> EntryRead
+    ensures { λ r. ⌜ entryRead r ≡ place 2 (now (s .entry)) number ⌝ }
+{
+    match read_index(s) {
+        IndexRead::Lacking => EntryRead::Lacking,
+        IndexRead::BadSize => EntryRead::BadSize,
+        IndexRead::Read(count, taken) => {
+            if count <= number {
+                return EntryRead::Absent;
+            }
+            let size = s[2] as usize;
+            let mask = mask_of(size);
+            let start = 3 + (count as usize + 1) * size;
+            let i = number as usize;
+            let a = offset_at(s, size, mask, i);
+            let b = offset_at(s, size, mask, i + 1);
+            if a == 0 {
+                return EntryRead::Absent;
+            }
+            if b < a {
+                return EntryRead::Absent;
+            }
+            if taken < start + (b - 1) {
+                return EntryRead::Absent;
+            }
+            EntryRead::Entry(start + (a - 1), b - a)
+        }
+    }
+}
+
+// The bytes of entry `number` where they stand in s, not copied, or the empty part at the start of
+// s where `read_entry` refuses. `ptr` is where a slice starts.
+pub fn entry_part(s: &[u8], number: u32) -> &[u8]
+    ensures { λ r. ⌜ record { at = ptr r; bytes = now r } ≡ partAt 2 (ptr (s .entry)) (now (s .entry)) number ⌝ }
+{
+    let EntryRead::Entry(at, length) = read_entry(s, number) else {
+        return &s[..0];
+    };
+    &s[at..at + length]
+}

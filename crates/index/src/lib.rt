@@ -1,0 +1,16 @@
+// CFF INDEX structures, read in place: how far one reaches, its entries, and whether it is well formed.
+mod entry;
+mod list;
+mod offset;
+mod read;
+mod write;
+
+pub use crate::entry::EntryRead;
+pub use crate::entry::entry_part;
+pub use crate::entry::read_entry;
+pub use crate::list::Formed;
+pub use crate::list::well_formed;
+pub use crate::read::IndexRead;
+pub use crate::read::read_index;
+pub use crate::write::IndexWritten;
+pub use crate::write::write_index;

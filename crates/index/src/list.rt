@@ -1,0 +1,70 @@
+// Whether a list of entries is well formed: one pass over its offsets.
+use crate::offset::count_at;
+use crate::offset::mask_of;
+use crate::offset::offset_at;
+use crate::read::IndexRead;
+use crate::read::read_index;
+ghost use mathlib.Core.Path.{_≡_};
+ghost use Rattle.index.specs.Formed.{formation, formed};
+ghost use Rattle.index.specs.IndexLaws.{Full};
+
+// Whether an INDEX is well formed, and if not, why.
+pub enum Formed {
+    // It is; how many entries it has.
+    Yes(u32),
+    // Bytes are lacking.
+    Lacking,
+    // The offset size is not 1 to 4.
+    BadSize,
+    // A last offset of 0 emptied it.
+    Emptied,
+    // The number of the first entry that is absent.
+    Bad(u32),
+}
+
+// Whether the INDEX at the start of s is well formed.
+pub fn well_formed(s: &[u8]) -> Formed
+    ensures { λ r. ⌜ formed r ≡ formation 2 (now (s .entry)) ⌝ }
+{
+    match read_index(s) {
+        IndexRead::Lacking => Formed::Lacking,
+        IndexRead::BadSize => Formed::BadSize,
+        IndexRead::Read(count, _) => {
+            if 0 < count {
+                return first_bad(s, count);
+            }
+            if count_at(s) == 0 {
+                return Formed::Yes(0);
+            }
+            Formed::Emptied
+        }
+    }
+}
+
+// The first entry that is absent, of an INDEX that was read and has entries. The pass reads each
+// offset once: none may be below the one before it or above the last, and the first may not be 0.
+fn first_bad(s: &[u8], count: u32) -> Formed
+    requires { ⌜ Full 2 (now s) count ⌝ }
+    ensures { λ r. ⌜ formed r ≡ formation 2 (now (s .entry)) ⌝ }
+{
+    let size = s[2] as usize;
+    let mask = mask_of(size);
+    let last = offset_at(s, size, mask, count as usize);
+    let mut before = offset_at(s, size, mask, 0);
+    if before == 0 {
+        return Formed::Bad(0);
+    }
+    let mut i = 0;
+    while i < count {
+        let after = offset_at(s, size, mask, i as usize + 1);
+        if after < before {
+            return Formed::Bad(i);
+        }
+        if last < after {
+            return Formed::Bad(i);
+        }
+        before = after;
+        i += 1;
+    }
+    Formed::Yes(count)
+}
