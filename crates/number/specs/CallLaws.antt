@@ -172,6 +172,7 @@ callee-refusal exact count o n v e = go (callIndex exact o) refl e
         below true q = let z : _≡_ {A = ℕ} 0 1 = cc in absurd (omega arith)
         below false q = cc
     entry (negsuc k) q = cc
+
     go : (a : Answer ℤ) → callIndex exact o ≡ a → biased count a ≡ refused n v → (n ≡ 7) ⊎ (n ≡ 9)
     go (accepted z) p q = inr (entry (z +ℤ pos (biasOf count)) q)
     go (refused m w) p q =
@@ -191,6 +192,7 @@ exact-index o z e = go (o .fixed) (counts true (natAbs (o .value))) refl e
   where
     m : ℕ
     m = natAbs (o .value)
+
     go : (f t : Bool) → counts true m ≡ t → cond f (cond t (accepted (signedAs (o .value) (nearest m))) (refused 7 [])) (accepted (o .value)) ≡ accepted z
         → cond f (cond (counts false m) (accepted (signedAs (o .value) (nearest m))) (refused 7 [])) (accepted (o .value)) ≡ accepted z
     go true true h e = rw (exact-counts m h) e
