@@ -1,0 +1,39 @@
+-- The subroutine lists as a run sees them: how many entries a list has, and for each number its bytes or its absence.
+use Prim.Native.Nat.{ℕ}
+use mathlib.Core.List.{List}
+use Rattle.number.specs.Answer.{Answer, accepted, refused}
+use Rattle.index.specs.Index.{Extent, Place, extent, place, part}
+use Rattle.reading.specs.declared.Which.{Which}
+use Rattle.reading.specs.declared.Which.the-variants.{Local, Global}
+
+pub data Entry : Type 0 where
+  present : List ℕ → Entry
+  absent : Entry
+
+pub record Subrs : Type 0 where
+  pub count : ℕ
+  pub entry : ℕ → Entry
+
+pub record Lists : Type 0 where
+  pub globals : Subrs
+  pub locals : Subrs
+
+abbrev pub listed : Lists → Which → Subrs
+listed l Local = l .locals
+listed l Global = l .globals
+
+-- ---- of INDEX bytes, whose count has w bytes
+
+unfoldable pub countIn : Answer Extent → ℕ
+countIn (accepted x) = x .entries
+countIn (refused n v) = 0
+
+unfoldable pub entryBy : List ℕ → Answer Place → Entry
+entryBy bytes (accepted p) = present bytes
+entryBy bytes (refused n v) = absent
+
+unfoldable pub subrsOf : ℕ → List ℕ → Subrs
+subrsOf w s = record { count = countIn (extent w s); entry = λ k. entryBy (part w s k) (place w s k) }
+
+unfoldable pub listsOf : ℕ → List ℕ → List ℕ → Lists
+listsOf w globals locals = record { globals = subrsOf w globals; locals = subrsOf w locals }

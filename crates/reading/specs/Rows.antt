@@ -1,0 +1,118 @@
+-- Document 01's starred rows ("Flattenings to reproduce"), proved as one list, and a second list of ours for what those rows miss.
+use mathlib.Core.Path.{_≡_, refl}
+use mathlib.Core.List.{List, [], _∷_, _++_}
+use mathlib.Core.Bool.{Bool, true, false, cond}
+use Prim.Native.Nat.{ℕ}
+use lib.ListN.{length, drop, replicate}
+use Rattle.number.specs.Answer.{Answer, accepted, refused}
+use Rattle.number.specs.BigEndian.{beAt, bytesOf}
+use Rattle.number.specs.Signed.{signed, unsigned}
+use Rattle.number.specs.Number.{integerRows, rowsOf, rowOf, valueBy, numberBy, readBy}
+use Rattle.number.specs.Written.{formBy, spell, bytes, bytesBy, spelling}
+use Rattle.number.specs.Call.{bitLength, counts, callIndex, entryOf, biased, callee}
+use Rattle.index.specs.Index.{offset, byLast, bySize, byCount, extent, absent, placeBy, placeIn, place, bytesBy as partBytes, part}
+use Rattle.index.specs.Formed.{entriesFrom, formedBy, formation}
+use Rattle.reading.specs.Rules.{Rules, plain, strict, plainKind, escapedKind, type2}
+use Rattle.reading.specs.Lists.{countIn, entryBy, subrsOf, listsOf}
+use Rattle.reading.specs.Tokens.{escapedAt, operatorAt, cutBy, cut}
+use Rattle.reading.specs.Reading.{struck, tokensBy, endsInOperand, onNumber, onStem, onMask, onEnd, onEntry, onIndex, onCall, onOperator, onCut, step, resume, after, tokensOf, read, reading}
+use Rattle.reading.specs.Flat.{spelled, flat}
+use Rattle.reading.specs.Answers.{Flattening, Outcome, verdictBy, placed, outcome, listGate, flattening}
+
+-- what a row expects: a flat string and its tokens, or a refusal and its values
+pub data Expected : Type 0 where
+  gives : List ℕ → ℕ → Expected
+  refuses : ℕ → List ℕ → Expected
+
+pub record Row : Type 0 where
+  pub charstring : List ℕ
+  pub globals : List ℕ
+  pub locals : List ℕ
+  pub rules : Rules
+  pub budget : ℕ
+  pub room : ℕ
+  pub expected : Expected
+
+-- the room is lent full of A5
+abbrev pub lent : Row → List ℕ
+lent r = replicate (r .room) 0xA5
+
+unfoldable pub expectedBy : List ℕ → Expected → Outcome
+expectedBy out (gives f t) = record { answer = accepted (record { size = length f; tokens = t }); left = f ++ drop (length f) out }
+expectedBy out (refuses n v) = record { answer = refused n v; left = out }
+
+abbrev pub Holds : Row → Type 0
+Holds r = flattening (r .rules) (r .charstring) (r .globals) (r .locals) (r .budget) (lent r) ≡ expectedBy (lent r) (r .expected)
+
+abbrev pub All : List Row → Type 0
+All [] = Unit {0}
+All (r ∷ rs) = Holds r × All rs
+
+-- ---- the rows
+
+abbrev none : List ℕ
+none = 0x00 ∷ 0x00 ∷ []
+
+-- document 01's L
+abbrev L : List ℕ
+L = 0x00 ∷ 0x01 ∷ 0x01 ∷ 0x01 ∷ 0x05 ∷ 0x8C ∷ 0x8D ∷ 0x15 ∷ 0x0B ∷ []
+
+-- a list of one entry, which calls itself
+abbrev itself : List ℕ
+itself = 0x00 ∷ 0x01 ∷ 0x01 ∷ 0x01 ∷ 0x03 ∷ 0x20 ∷ 0x0A ∷ []
+
+-- ample budget and room, plain
+abbrev row : List ℕ → List ℕ → Expected → Row
+row cs locals e = record { charstring = cs; globals = none; locals = locals; rules = plain; budget = 1000; room = 32; expected = e }
+
+abbrev within : Rules → ℕ → ℕ → List ℕ → List ℕ → List ℕ → Expected → Row
+within rules budget room cs globals locals e =
+    record { charstring = cs; globals = globals; locals = locals; rules = rules; budget = budget; room = room; expected = e }
+
+-- document 01's starred rows, in its order, each followed by its second half
+abbrev pub starred : List Row
+starred =
+    row [] none (gives [] 0)
+    ∷ row (0x20 ∷ 0x0A ∷ 0x0E ∷ []) L (gives (0x8C ∷ 0x8D ∷ 0x15 ∷ 0x0E ∷ []) 7)
+    ∷ within plain 1000 3 (0x20 ∷ 0x0A ∷ 0x0E ∷ []) none L (refuses 13 (4 ∷ 7 ∷ []))
+    ∷ row (0xFF ∷ 0xFF ∷ 0x95 ∷ 0x00 ∷ 0x00 ∷ 0x0A ∷ 0x0E ∷ []) L (gives (0x8C ∷ 0x8D ∷ 0x15 ∷ 0x0E ∷ []) 7)
+    ∷ row (0x1C ∷ 0x00 ∷ 0x05 ∷ 0x0E ∷ []) none (gives (0x90 ∷ 0x0E ∷ []) 2)
+    ∷ row (0x0B ∷ 0x00 ∷ []) none (gives [] 1)
+    ∷ row (0x21 ∷ 0x20 ∷ 0x0A ∷ 0x0E ∷ []) (0x00 ∷ 0x02 ∷ 0x01 ∷ 0x01 ∷ 0x02 ∷ 0x04 ∷ 0x0A ∷ 0x8C ∷ 0x16 ∷ []) (gives (0x8C ∷ 0x16 ∷ 0x0E ∷ []) 7)
+    ∷ row (0x20 ∷ 0x0A ∷ 0x00 ∷ []) (0x00 ∷ 0x01 ∷ 0x01 ∷ 0x01 ∷ 0x02 ∷ 0x0E ∷ []) (gives (0x0E ∷ []) 3)
+    ∷ row (0x8B ∷ 0x8C ∷ 0x01 ∷ 0x8B ∷ 0x8C ∷ 0x13 ∷ 0x80 ∷ 0x0E ∷ []) none (gives (0x8B ∷ 0x8C ∷ 0x01 ∷ 0x8B ∷ 0x8C ∷ 0x13 ∷ 0x80 ∷ 0x0E ∷ []) 7)
+    ∷ row (0x13 ∷ 0x0E ∷ []) none (gives (0x13 ∷ 0x0E ∷ []) 2)
+    ∷ row (0x8B ∷ 0x8B ∷ 0x8B ∷ 0x8B ∷ 0x0E ∷ []) none (refuses 12 (5 ∷ []))
+    ∷ row (0x8B ∷ 0x8B ∷ 0x8B ∷ 0x0E ∷ []) none (gives (0x8B ∷ 0x8B ∷ 0x8B ∷ 0x0E ∷ []) 4)
+    ∷ row (0x8B ∷ 0x8C ∷ 0x01 ∷ 0x13 ∷ 0x80 ∷ 0x20 ∷ 0x13 ∷ 0x80 ∷ 0x0A ∷ []) L (refuses 8 (7 ∷ []))
+    ∷ row (0x20 ∷ 0x0A ∷ []) itself (refuses 10 (128 ∷ []))
+    ∷ within plain 127 32 (0x20 ∷ 0x0A ∷ []) none itself (refuses 3 (127 ∷ []))
+    ∷ []
+
+-- what those rows miss
+abbrev pub more : List Row
+more =
+    -- the mask length stays when later stems come
+    row (0x8B ∷ 0x8C ∷ 0x01 ∷ 0x13 ∷ 0x80 ∷ 0x8B ∷ 0x8B ∷ 0x8B ∷ 0x8B ∷ 0x8B ∷ 0x8B ∷ 0x8B ∷ 0x8B ∷ 0x8B ∷ 0x8B ∷ 0x8B ∷ 0x8B ∷ 0x8B ∷ 0x8B ∷ 0x8B ∷ 0x8B ∷ 0x01 ∷ 0x13 ∷ 0x80 ∷ 0x0E ∷ []) none (gives (0x8B ∷ 0x8C ∷ 0x01 ∷ 0x13 ∷ 0x80 ∷ 0x8B ∷ 0x8B ∷ 0x8B ∷ 0x8B ∷ 0x8B ∷ 0x8B ∷ 0x8B ∷ 0x8B ∷ 0x8B ∷ 0x8B ∷ 0x8B ∷ 0x8B ∷ 0x8B ∷ 0x8B ∷ 0x8B ∷ 0x8B ∷ 0x01 ∷ 0x13 ∷ 0x80 ∷ 0x0E ∷ []) 23)
+    -- an index that a subroutine left on the stack
+    ∷ row (0x20 ∷ 0x0A ∷ 0x0A ∷ 0x0E ∷ []) (0x00 ∷ 0x02 ∷ 0x01 ∷ 0x01 ∷ 0x03 ∷ 0x04 ∷ 0x21 ∷ 0x0B ∷ 0x0B ∷ []) (gives (0x0E ∷ []) 7)
+    -- a global call
+    ∷ within plain 1000 32 (0x20 ∷ 0x1D ∷ 0x0E ∷ []) L none (gives (0x8C ∷ 0x8D ∷ 0x15 ∷ 0x0E ∷ []) 7)
+    -- a call two deep that ends everything
+    ∷ row (0x21 ∷ 0x0A ∷ 0x00 ∷ []) (0x00 ∷ 0x02 ∷ 0x01 ∷ 0x01 ∷ 0x02 ∷ 0x05 ∷ 0x0E ∷ 0x20 ∷ 0x0A ∷ 0x00 ∷ []) (gives (0x0E ∷ []) 5)
+    -- strict: depth 11, and depth 12
+    ∷ within strict 1000 32 (0x29 ∷ 0x0A ∷ []) none (0x00 ∷ 0x0A ∷ 0x01 ∷ 0x01 ∷ 0x02 ∷ 0x04 ∷ 0x06 ∷ 0x08 ∷ 0x0A ∷ 0x0C ∷ 0x0E ∷ 0x10 ∷ 0x12 ∷ 0x14 ∷ 0x0E ∷ 0x20 ∷ 0x0A ∷ 0x21 ∷ 0x0A ∷ 0x22 ∷ 0x0A ∷ 0x23 ∷ 0x0A ∷ 0x24 ∷ 0x0A ∷ 0x25 ∷ 0x0A ∷ 0x26 ∷ 0x0A ∷ 0x27 ∷ 0x0A ∷ 0x28 ∷ 0x0A ∷ []) (gives (0x0E ∷ []) 21)
+    ∷ within strict 1000 32 (0x20 ∷ 0x0A ∷ []) none itself (refuses 10 (22 ∷ []))
+    -- strict: an index that f32 would round
+    ∷ within strict 1000 32 (0xFF ∷ 0x01 ∷ 0x2C ∷ 0x00 ∷ 0x01 ∷ 0x0A ∷ []) none L (refuses 7 (2 ∷ []))
+    -- budget 6 is enough where running out is no token, and 5 is not
+    ∷ within plain 6 32 (0x20 ∷ 0x0A ∷ []) none L (gives (0x8C ∷ 0x8D ∷ 0x15 ∷ []) 6)
+    ∷ within plain 5 32 (0x20 ∷ 0x0A ∷ []) none L (refuses 3 (5 ∷ []))
+    -- a list that is not well formed: the global one first
+    ∷ within plain 0 32 [] [] [] (refuses 1 [])
+    ∷ []
+
+-- one theorem over the reading's definition for both lists
+pub rows-hold : All starred × All more
+unfolding expectedBy beAt bytesOf signed unsigned integerRows rowsOf rowOf valueBy numberBy readBy formBy spell bytes bytesBy spelling bitLength counts callIndex entryOf biased callee offset byLast bySize byCount extent absent placeBy placeIn place partBytes part entriesFrom formedBy formation plainKind escapedKind type2 countIn entryBy subrsOf listsOf escapedAt operatorAt cutBy cut struck tokensBy endsInOperand onNumber onStem onMask onEnd onEntry onIndex onCall onOperator onCut step resume after tokensOf read reading spelled flat verdictBy placed outcome listGate flattening
+rows-hold = ((refl, (refl, (refl, (refl, (refl, (refl, (refl, (refl, (refl, (refl, (refl, (refl, (refl, (refl, (refl, tt))))))))))))))), (refl, (refl, (refl, (refl, (refl, (refl, (refl, (refl, (refl, (refl, tt)))))))))))

@@ -1,0 +1,213 @@
+-- One token, seen from its outcome: all that a step can lead to, with what holds there. Laws of the reading go by these cases, and not by the
+-- text of `step`. Assumes nothing.
+use mathlib.Core.Path.{_≡_, refl, sym, ap, subst, _∙_}
+use mathlib.Core.Bool.{Bool, true, false, cond}
+use mathlib.Core.List.{List, [], _∷_}
+use Prim.Native.Nat.{ℕ, zero, suc, _+_, _-_, _<_, _≤_}
+use native.Mathlib.Omega.{arith}
+use mathlib.Core.Logic.{_⊎_, inl, inr}
+use lib.Dec.{eqb, leb, ltb}
+use lib.ListN.{length, take, drop}
+use borrow.Author.Tests.{ltb-true, ltb-false, leb-true, eqb-false, lt-ltb, le-leb, ne-eqb}
+use Rattle.number.specs.Answer.{Answer, accepted, refused}
+use Rattle.number.specs.Call.{callee}
+use Rattle.number.specs.CallLaws.{callee-refusal}
+use Rattle.number.specs.declared.Operand.{Operand}
+use Rattle.reading.specs.Rules.{Rules}
+use Rattle.reading.specs.Lists.{Lists, Subrs, Entry, present, absent, listed}
+use Rattle.reading.specs.Tokens.{Token, number, operator, Cut, token, lacking, cut}
+use Rattle.reading.specs.Items.{Item, operand, plainly, masked, Left, pushed, popped, cleared, counted, atMask}
+use Rattle.reading.specs.Reading.{Entering, Shown, item, call, return, struck, State, Ending, back, ended, stopped, Step, halt, go, enter, refuse, shows, endsInOperand, onNumber, onStem, onMask, onEnd, onEntry, onIndex, onCall, onOperator, onCut, step}
+use Rattle.reading.specs.declared.Operator.{Operator}
+use Rattle.reading.specs.declared.Which.{Which}
+use Rattle.reading.specs.declared.Kind.{Kind}
+use Rattle.reading.specs.declared.Kind.the-variants.{Stem, Clear, Mask, Call, Return, End, Unknown}
+
+-- where a token that is taken leads
+pub data Goes (rules : Rules) (lists : Lists) (levels at : ℕ) (bytes : List ℕ) (s : State) : Step → Type 0 where
+  pushes : (o : Operand) (rest : List ℕ) → cut bytes ≡ token (number o) rest → length (s .left .operands) < rules .operands
+      → Goes rules lists levels at bytes s (go rest (shows (operand o) (pushed o (s .left)) s))
+  stems : (p : Operator) (rest : List ℕ) → cut bytes ≡ token (operator p) rest → rules .kind p ≡ Stem → counted (s .left) .hints ≤ rules .hints
+      → Goes rules lists levels at bytes s (go rest (shows (plainly p) (counted (s .left)) s))
+  clears : (p : Operator) (rest : List ℕ) → cut bytes ≡ token (operator p) rest → rules .kind p ≡ Clear
+      → Goes rules lists levels at bytes s (go rest (shows (plainly p) (cleared (s .left)) s))
+  masks : (p : Operator) (rest : List ℕ) → cut bytes ≡ token (operator p) rest → rules .kind p ≡ Mask
+      → atMask (s .left) .hints ≤ rules .hints → atMask (s .left) .mask ≤ length rest
+      → Goes rules lists levels at bytes s
+      (go (drop (atMask (s .left) .mask) rest) (shows (masked p (take (atMask (s .left) .mask) rest)) (atMask (s .left)) s))
+  enters : (p : Operator) (rest : List ℕ) (c : Entering) (ops : List Operand) (body : List ℕ) → cut bytes ≡ token (operator p) rest
+      → rules .kind p ≡ Call (c .list) → c .at ≡ at → s .left .operands ≡ c .index ∷ ops
+      → callee (rules .exact) (listed lists (c .list) .count) (c .index) ≡ accepted (c .entry) → listed lists (c .list) .entry (c .entry) ≡ present body
+      → (levels ≡ 0 → ⊥) → endsInOperand (struck (s .shown)) ≡ true
+      → Goes rules lists levels at bytes s (enter body rest (record { left = popped (s .left); shown = call c ∷ s .shown; within = c ∷ s .within }))
+  returns : (p : Operator) (rest : List ℕ) → cut bytes ≡ token (operator p) rest → rules .kind p ≡ Return
+      → Goes rules lists levels at bytes s (halt back (record { left = s .left; shown = return ∷ s .shown; within = s .within }))
+  ends : (p : Operator) (rest : List ℕ) → cut bytes ≡ token (operator p) rest → rules .kind p ≡ End → length (s .left .operands) < 4
+      → Goes rules lists levels at bytes s (halt ended (shows (plainly p) (s .left) s))
+
+-- what a token that was begun leads to: it is refused, or taken
+pub data Begun (rules : Rules) (lists : Lists) (levels at : ℕ) (bytes : List ℕ) (s : State) : Step → Type 0 where
+  declines : (n : ℕ) → (n ≡ 3 → ⊥) → Begun rules lists levels at bytes s (refuse n s)
+  goes : (x : Step) → Goes rules lists levels at bytes s x → Begun rules lists levels at bytes s x
+
+pub data Stepped (rules : Rules) (lists : Lists) (levels at budget : ℕ) (bytes : List ℕ) (s : State) : Step → Type 0 where
+  spent : budget ≤ length (s .shown) → Stepped rules lists levels at budget bytes s (refuse 3 s)
+  begun : (x : Step) → length (s .shown) < budget → Begun rules lists levels at bytes s x → Stepped rules lists levels at budget bytes s x
+
+-- ---- each step is one of these
+
+not-three : (n : ℕ) → n ≡ 3 → (n ≡ 7) ⊎ (n ≡ 9) → ⊥
+not-three n e (inl p) = omega arith
+not-three n e (inr p) = omega arith
+
+module _ (rules : Rules) (lists : Lists) (levels at : ℕ) (bytes : List ℕ) (s : State) where
+  abbrev View : Step → Type 0
+  View = Begun rules lists levels at bytes s
+
+  either : (t : Bool) (x y : Step) → (t ≡ true → View x) → (t ≡ false → View y) → View (cond t x y)
+  either true x y f g = f refl
+  either false x y f g = g refl
+
+  module _ (rest : List ℕ) where
+    view-number : (o : Operand) → cut bytes ≡ token (number o) rest → View (onNumber rules rest s o)
+    unfolding onNumber
+    view-number o q = either (ltb (length (s .left .operands)) (rules .operands)) _ _ (λ t. goes _ (pushes o rest q (ltb-true _ _ t))) (λ t. declines 5 (λ e. omega arith))
+
+    module _ (p : Operator) (q : cut bytes ≡ token (operator p) rest) where
+      view-stem : rules .kind p ≡ Stem → View (onStem rules rest s p)
+      unfolding onStem
+      view-stem k = either (leb (counted (s .left) .hints) (rules .hints)) _ _ (λ t. goes _ (stems p rest q k (leb-true _ _ t))) (λ t. declines 11 (λ e. omega arith))
+
+      view-mask : rules .kind p ≡ Mask → View (onMask rules rest s p)
+      unfolding onMask
+      view-mask k =
+          either (leb (atMask (s .left) .hints) (rules .hints)) _ _
+          (λ t. either (leb (atMask (s .left) .mask) (length rest)) _ _ (λ u. goes _ (masks p rest q k (leb-true _ _ t) (leb-true _ _ u))) (λ u. declines 4 (λ e. omega arith)))
+          (λ t. declines 11 (λ e. omega arith))
+
+      view-end : rules .kind p ≡ End → View (onEnd rules rest s p)
+      unfolding onEnd
+      view-end k = either (ltb (length (s .left .operands)) 4) _ _ (λ t. goes _ (ends p rest q k (ltb-true _ _ t))) (λ t. declines 12 (λ e. omega arith))
+
+      module _ (which : Which) (k : rules .kind p ≡ Call which) (o : Operand) (ops : List Operand) (h : s .left .operands ≡ o ∷ ops) where
+        view-entry : (n : ℕ) → callee (rules .exact) (listed lists which .count) o ≡ accepted n → (e : Entry) → listed lists which .entry n ≡ e
+            → View (onEntry levels rest s (record { list = which; entry = n; at = at; index = o }) e)
+        unfolding onEntry
+        view-entry n c absent f = declines 9 (λ e. omega arith)
+        view-entry n c (present body) f =
+            either (eqb levels 0) _ _ (λ t. declines 10 (λ e. omega arith))
+            (λ t. either (endsInOperand (struck (s .shown))) _ _
+            (λ u. goes _ (enters p rest (record { list = which; entry = n; at = at; index = o }) ops body q k refl h c f (eqb-false levels 0 t) u))
+            (λ u. declines 8 (λ e. omega arith)))
+
+        view-index : (a : Answer ℕ) → callee (rules .exact) (listed lists which .count) o ≡ a → View (onIndex levels rest s which (listed lists which) at o a)
+        unfolding onIndex
+        view-index (accepted n) c = view-entry n c (listed lists which .entry n) refl
+        view-index (refused n v) c = declines n (λ e. not-three n e (callee-refusal _ _ _ n v c))
+
+      view-call : (which : Which) → rules .kind p ≡ Call which → (l : List Operand) → s .left .operands ≡ l
+          → View (onCall levels rest s which (listed lists which) at (rules .exact) l)
+      unfolding onCall
+      view-call which k [] h = declines 7 (λ e. omega arith)
+      view-call which k (o ∷ ops) h = view-index which k o ops h (callee (rules .exact) (listed lists which .count) o) refl
+
+      view-operator : (k : Kind) → rules .kind p ≡ k → View (onOperator rules lists levels at rest s p k)
+      unfolding onOperator
+      view-operator Stem k = view-stem k
+      view-operator Clear k = goes _ (clears p rest q k)
+      view-operator Mask k = view-mask k
+      view-operator (Call which) k = view-call which k (s .left .operands) refl
+      view-operator Return k = goes _ (returns p rest q k)
+      view-operator End k = view-end k
+      view-operator Unknown k = declines 6 (λ e. omega arith)
+
+  view-cut : (x : Cut) → cut bytes ≡ x → View (onCut rules lists levels at s x)
+  unfolding onCut
+  view-cut lacking q = declines 4 (λ e. omega arith)
+  view-cut (token (number o) rest) q = view-number rest o q
+  view-cut (token (operator p) rest) q = view-operator rest p q (rules .kind p) refl
+
+  pub step-is : (budget : ℕ) → Stepped rules lists levels at budget bytes s (step rules lists levels at budget bytes s)
+  unfolding step
+  step-is budget = go-by (ltb (length (s .shown)) budget) refl
+    where
+      go-by : (t : Bool) → ltb (length (s .shown)) budget ≡ t
+          → Stepped rules lists levels at budget bytes s (cond t (onCut rules lists levels at s (cut bytes)) (refuse 3 s))
+      go-by true t = begun _ (ltb-true _ _ t) (view-cut (cut bytes) refl)
+      go-by false t = spent (ltb-false _ _ t)
+
+-- ---- and where a token is taken, the step is that one
+
+module _ (rules : Rules) (lists : Lists) (levels at budget : ℕ) (bytes : List ℕ) (s : State) (h : length (s .shown) < budget) where
+  begins : step rules lists levels at budget bytes s ≡ onCut rules lists levels at s (cut bytes)
+  unfolding step
+  begins = rw (lt-ltb (length (s .shown)) budget h)
+
+  on-operator : (p : Operator) (rest : List ℕ) (k : Kind) → cut bytes ≡ token (operator p) rest → rules .kind p ≡ k
+      → onCut rules lists levels at s (cut bytes) ≡ onOperator rules lists levels at rest s p k
+  unfolding onCut
+  on-operator p rest k q e = rw (q, e)
+
+  on-number : (o : Operand) (rest : List ℕ) → cut bytes ≡ token (number o) rest → onCut rules lists levels at s (cut bytes) ≡ onNumber rules rest s o
+  unfolding onCut
+  on-number o rest q = rw q
+
+  number-taken : (o : Operand) (rest : List ℕ) → length (s .left .operands) < rules .operands
+      → onNumber rules rest s o ≡ go rest (shows (operand o) (pushed o (s .left)) s)
+  unfolding onNumber
+  number-taken o rest l = rw (lt-ltb (length (s .left .operands)) (rules .operands) l)
+
+  module _ (p : Operator) (rest : List ℕ) where
+    stem-taken : counted (s .left) .hints ≤ rules .hints → onOperator rules lists levels at rest s p Stem ≡ go rest (shows (plainly p) (counted (s .left)) s)
+    unfolding onOperator onStem
+    stem-taken l = rw (le-leb (counted (s .left) .hints) (rules .hints) l)
+
+    clear-taken : onOperator rules lists levels at rest s p Clear ≡ go rest (shows (plainly p) (cleared (s .left)) s)
+    unfolding onOperator
+    clear-taken = refl
+
+    mask-taken : atMask (s .left) .hints ≤ rules .hints → atMask (s .left) .mask ≤ length rest → onOperator rules lists levels at rest s p Mask
+        ≡ go (drop (atMask (s .left) .mask) rest) (shows (masked p (take (atMask (s .left) .mask) rest)) (atMask (s .left)) s)
+    unfolding onOperator onMask
+    mask-taken l m = rw (le-leb (atMask (s .left) .hints) (rules .hints) l, le-leb (atMask (s .left) .mask) (length rest) m)
+
+    return-taken : onOperator rules lists levels at rest s p Return ≡ halt back (record { left = s .left; shown = return ∷ s .shown; within = s .within })
+    unfolding onOperator
+    return-taken = refl
+
+    end-taken : length (s .left .operands) < 4 → onOperator rules lists levels at rest s p End ≡ halt ended (shows (plainly p) (s .left) s)
+    unfolding onOperator onEnd
+    end-taken l = rw (lt-ltb (length (s .left .operands)) 4 l)
+
+    call-taken : (c : Entering) (ops : List Operand) (body : List ℕ) → c .at ≡ at → s .left .operands ≡ c .index ∷ ops
+        → callee (rules .exact) (listed lists (c .list) .count) (c .index) ≡ accepted (c .entry) → listed lists (c .list) .entry (c .entry) ≡ present body
+        → (levels ≡ 0 → ⊥) → endsInOperand (struck (s .shown)) ≡ true
+        → onOperator rules lists levels at rest s p (Call (c .list))
+        ≡ enter body rest (record { left = popped (s .left); shown = call c ∷ s .shown; within = c ∷ s .within })
+    unfolding onOperator onCall onIndex onEntry
+    call-taken c ops body a o e f l u =
+        ap (onCall levels rest s (c .list) (listed lists (c .list)) at (rules .exact)) o ∙ index-taken ∙ entry-taken
+      where
+        here : Entering
+        here = record { list = c .list; entry = c .entry; at = at; index = c .index }
+
+        index-taken : onCall levels rest s (c .list) (listed lists (c .list)) at (rules .exact) (c .index ∷ ops) ≡ onEntry levels rest s here (present body)
+        index-taken = rw (e, f)
+
+        same : here ≡ c
+        same = λ i. record { list = c .list; entry = c .entry; at = sym a i; index = c .index }
+
+        entry-taken : onEntry levels rest s here (present body) ≡ enter body rest (record { left = popped (s .left); shown = call c ∷ s .shown; within = c ∷ s .within })
+        entry-taken = rw (ne-eqb levels 0 l, u) (ap (λ (x : Entering). enter body rest (record { left = popped (s .left); shown = call x ∷ s .shown; within = x ∷ s .within })) same)
+
+  takes : (x : Step) → Goes rules lists levels at bytes s x → onCut rules lists levels at s (cut bytes) ≡ x
+  takes x (pushes o rest q l) = on-number o rest q ∙ number-taken o rest l
+  takes x (stems p rest q k l) = on-operator p rest Stem q k ∙ stem-taken p rest l
+  takes x (clears p rest q k) = on-operator p rest Clear q k ∙ clear-taken p rest
+  takes x (masks p rest q k l m) = on-operator p rest Mask q k ∙ mask-taken p rest l m
+  takes x (enters p rest c ops body q k a o e f l u) = on-operator p rest (Call (c .list)) q k ∙ call-taken p rest c ops body a o e f l u
+  takes x (returns p rest q k) = on-operator p rest Return q k ∙ return-taken p rest
+  takes x (ends p rest q k l) = on-operator p rest End q k ∙ end-taken p rest l
+
+  pub step-goes : (x : Step) → Goes rules lists levels at bytes s x → step rules lists levels at budget bytes s ≡ x
+  step-goes x g = begins ∙ takes x g

@@ -1,0 +1,64 @@
+// The words of the call-following reading, as the code above uses them: what an operator is, what
+// a profile is, and what flattening answers. The reading itself is a definition, in specs/.
+
+// An operator: whether it stands behind the escape byte 12, and its byte.
+pub struct Operator {
+    pub escaped: bool,
+    pub byte: u8,
+}
+
+// The list that a call names.
+pub enum Which {
+    Local,
+    Global,
+}
+
+// What an operator does.
+pub enum Kind {
+    // Declares hints, and clears the stack.
+    Stem,
+    // Clears the stack.
+    Clear,
+    // Takes a mask's bytes.
+    Mask,
+    Call(Which),
+    Return,
+    // Ends everything.
+    End,
+    // Is no operator that we take.
+    Unknown,
+}
+
+// The rules to run by.
+pub enum Profile {
+    Plain,
+    Strict,
+}
+
+// Why a run stopped: document 01's refusals 3 to 12.
+pub enum Refusal {
+    BudgetSpent,
+    BytesLacking,
+    TooManyOperands,
+    UnknownOperator,
+    NoIndex,
+    IndexNotLast,
+    NoEntry,
+    TooDeep,
+    TooManyHints,
+    Composite,
+}
+
+// What flattening answers.
+pub enum Flattened {
+    // Accepted: the length of the flat string, and the tokens.
+    Accepted(usize, u32),
+    // The global list is not well formed.
+    BadGlobals,
+    // The local list is not well formed.
+    BadLocals,
+    // The run was refused at this token.
+    Refused(Refusal, u32),
+    // The flat string has this length, which is more than the room; and the tokens.
+    Short(usize, u32),
+}
