@@ -3,7 +3,7 @@ SECONDS = 60
 SOURCES = ../shared
 export SOURCES
 
-.PHONY: test list fixed clean
+.PHONY: test list fixed bench-index clean
 
 test:
 	@tools/test $(SECONDS)
@@ -18,6 +18,10 @@ fixed:
 	tools/native-staticlib ighzamrel
 	tools/oracle/build fixed
 	target/oracle/fixed
+
+# reading an INDEX of 30,000 entries, the proved functions against the Rust
+bench-index:
+	bench/index/run
 
 clean:
 	rm -rf target

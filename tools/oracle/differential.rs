@@ -1,7 +1,8 @@
-//! Compares a program with the expected lines on random records, batch after batch.
+//! Compares a program with the expected lines: on the list's records, on those too big or too many
+//! to store, and then on random ones, batch after batch.
 
 use crate::expected::{line, UNREADABLE};
-use crate::number;
+use crate::groups::GROUPS;
 use crate::random::Random;
 use crate::record::{hex, row, Record};
 use std::collections::BTreeMap;
@@ -29,8 +30,21 @@ pub fn run(program: &str, seconds: u64, seed: u64) -> Result<(), String> {
     let mut counts = Counts::new();
     let start = Instant::now();
 
-    compare(program, &number::inputs::listed(), &[], &mut counts)?;
-    compare(program, &number::inputs::longest(), &[], &mut counts)?;
+    for group in &GROUPS {
+        for records in [(group.listed)(), (group.longest)(), (group.exhaustive)()] {
+            for batch in records.chunks(BATCH) {
+                compare(program, batch, &[], &mut counts)?;
+            }
+        }
+        if let Some(unreachable) = group.unreachable {
+            println!("{}", unreachable());
+        }
+    }
+    let fixed: u64 = counts.values().sum();
+    println!(
+        "{fixed} lines compared that are the same in every run, {} s",
+        start.elapsed().as_secs()
+    );
     loop {
         let records: Vec<Record> = (0..BATCH).map(|_| any_record(&mut random)).collect();
         compare(program, &records, &any_tail(&mut random), &mut counts)?;
@@ -40,12 +54,17 @@ pub fn run(program: &str, seconds: u64, seed: u64) -> Result<(), String> {
     }
 
     let compared: u64 = counts.values().sum();
-    println!("{compared} lines compared in {} s, no difference", start.elapsed().as_secs());
+    println!(
+        "{compared} lines compared in {} s, {} of them random, no difference",
+        start.elapsed().as_secs(),
+        compared - fixed
+    );
     for ((op, answer), count) in &counts {
         println!("operation {op}, answer {answer}: {count}");
     }
-    let missing: Vec<String> = number::ANSWERS
+    let missing: Vec<String> = GROUPS
         .iter()
+        .flat_map(|group| group.answers)
         .flat_map(|&(op, answers)| answers.iter().map(move |&answer| (op, answer.to_string())))
         .filter(|key| !counts.contains_key(key))
         .map(|(op, answer)| format!("operation {op} never answered {answer}"))
@@ -59,8 +78,10 @@ pub fn run(program: &str, seconds: u64, seed: u64) -> Result<(), String> {
 
 /// A record of any operation; once in a while one with a byte too many or too few.
 fn any_record(random: &mut Random) -> Record {
-    let op = random.one_of(&number::OPERATIONS);
-    let mut record = number::inputs::random(op, random);
+    let operations =
+        GROUPS.iter().flat_map(|group| group.operations.iter().map(move |&op| (group, op)));
+    let (group, op) = random.one_of(&operations.collect::<Vec<_>>());
+    let mut record = (group.random)(op, random);
     if random.once_in(200) {
         if random.once_in(2) {
             record.pop();

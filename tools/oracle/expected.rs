@@ -1,6 +1,6 @@
 //! The line that `cases` owes for a record.
 
-use crate::number;
+use crate::groups;
 use crate::record::{hex, Arguments, MOST};
 use std::fmt::Debug;
 
@@ -19,10 +19,7 @@ fn read(record: &[u8]) -> Option<String> {
     }
     let (&op, arguments) = record.split_first()?;
     let mut arguments = Arguments::new(arguments);
-    match op {
-        1..=4 | 9 | 10 => number::line(op, &mut arguments),
-        _ => None,
-    }
+    (groups::of(op)?.line)(op, &mut arguments)
 }
 
 /// Where document 01 and the Rust both speak they must say the same. If they part, there is nothing

@@ -1,25 +1,28 @@
 //! The stored list of the program `cases`: its standard input, and the output it owes.
 
 use crate::expected::{line, UNREADABLE};
-use crate::number;
+use crate::groups::GROUPS;
 use crate::random::Random;
 use crate::record::{row, Record};
 use std::fs;
 use std::path::Path;
 
-/// How many records the sample has for each operation.
-const SAMPLE: usize = 2000;
 const SEED: u64 = 2;
+
+/// The most bytes that a record of the random sample has, so that the list stays small.
+const STORED: usize = 500;
 
 /// A length of 9, and then only three bytes.
 const CUT_OFF: [u8; 7] = [0, 0, 0, 9, 1, 0, 0];
 
 pub fn write(folder: &str) -> Result<(), String> {
-    let mut records = number::inputs::listed();
+    let mut records = Vec::new();
     let mut random = Random::new(SEED);
-    for op in number::OPERATIONS {
-        for _ in 0..SAMPLE {
-            records.push(number::inputs::random(op, &mut random));
+    for group in &GROUPS {
+        records.extend((group.listed)());
+        for &op in group.operations {
+            let any = std::iter::repeat_with(|| (group.random)(op, &mut random));
+            records.extend(any.filter(|record| record.len() <= STORED).take(group.sample));
         }
     }
     records.extend(unreadable());
@@ -45,8 +48,8 @@ pub fn write(folder: &str) -> Result<(), String> {
 /// ever to have the numbers 0, 31 and 255.
 fn unreadable() -> Vec<Record> {
     let mut records = vec![vec![], vec![0], vec![31], vec![255, 0, 0, 0, 0]];
-    records.extend(number::inputs::beyond());
-    for sound in number::inputs::one_of_each() {
+    records.extend(GROUPS.iter().flat_map(|group| (group.beyond)()));
+    for sound in GROUPS.iter().flat_map(|group| (group.one_of_each)()) {
         records.push(sound[..sound.len() - 1].to_vec());
         records.push(sound[..1].to_vec());
         records.push([&sound[..], &[0]].concat());

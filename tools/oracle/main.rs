@@ -1,11 +1,13 @@
 //! Answers of the unchanged Rust, and of document 01 where it alone speaks, for the program `cases`.
 //!
-//! A group of operations is a folder (`number`): `source` asks the Rust, `rules` states document 01,
-//! `inputs` makes records, and the group's root gives a record's line. A new group is named in
-//! `expected`, `list` and `differential`.
+//! A group of operations is a folder (`number`, `index`): `source` asks the Rust, `rules` states
+//! document 01, `inputs` makes records, and the group's root gives a record's line. A new group is
+//! named in `groups`.
 
 mod differential;
 mod expected;
+mod groups;
+mod index;
 mod list;
 mod number;
 mod random;

@@ -10,7 +10,7 @@ pub(crate) struct Line {
     // Whether the first `shown` bytes of the room follow.
     pub(crate) hex: bool,
     pub(crate) shown: usize,
-    // Whether a byte of the room that is not reported was changed.
+    // Whether a byte of the room that is not reported was changed, or an answer contradicts itself.
     pub(crate) marked: bool,
 }
 
@@ -49,6 +49,12 @@ impl Line {
     // The answer reports no byte of the room that it was lent.
     pub(crate) fn keeps(mut self, room: &[u8]) -> Self {
         self.marked = changed(0, room);
+        self
+    }
+
+    // The answer contradicts itself, if `wrong`.
+    pub(crate) fn marks(mut self, wrong: bool) -> Self {
+        self.marked = wrong;
         self
     }
 

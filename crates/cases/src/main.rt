@@ -4,6 +4,7 @@
 // its operation is unknown, a kind or a profile is neither 0 nor 1, or it or its room is over the
 // limit. Input that ends inside a record gives `?` and the end.
 mod arguments;
+mod indexes;
 mod input;
 mod line;
 mod numbers;
@@ -18,13 +19,15 @@ use crate::output::write_line;
 ghost use mathlib.Core.Path.{_≡_};
 ghost use lib.ListN.{length};
 
-// The limits of a record's N and of a room are the lengths of these two. They stand on the stack,
-// which has to hold some 2.2 million bytes.
+// The limits of a record's N and of a room are the lengths of the first two, and no record has room
+// for more lengths than the third holds. They stand on the stack, which has to hold some 3.3 million
+// bytes.
 fn main() {
     let mut buffer = mebibyte();
     let mut room = mebibyte();
+    let mut lengths = mebibyte_of_words();
     let mut text = io::large_buffer();
-    answer_all(&mut buffer, &mut room, &mut text);
+    answer_all(&mut buffer, &mut lengths, &mut room, &mut text);
 }
 
 // 1,048,576 zeros. The `ensures` gives only the length, which lending the array as a slice needs.
@@ -34,21 +37,28 @@ fn mebibyte() -> [u8; 1048576]
     [0; 1048576]
 }
 
+// 262,144 zeros of four bytes, likewise.
+fn mebibyte_of_words() -> [u32; 262144]
+    ensures { λ r. ⌜ 262144 ≡ length r ⌝ }
+{
+    [0; 262144]
+}
+
 // A proved loop has to end, and nothing says that the input does. So the records are counted down,
 // from a number that no input uses up.
-fn answer_all(buffer: &mut [u8], room: &mut [u8], text: &mut [u8]) {
+fn answer_all(buffer: &mut [u8], lengths: &mut [u32], room: &mut [u8], text: &mut [u8]) {
     let mut records = u64::MAX;
-    while records > 0 && answer_next(buffer, room, text) {
+    while records > 0 && answer_next(buffer, lengths, room, text) {
         records -= 1;
     }
 }
 
 // Reads a record, writes its line, and answers whether to go on: not where the input ended, nor
 // where the line did not go out.
-fn answer_next(buffer: &mut [u8], room: &mut [u8], text: &mut [u8]) -> bool {
+fn answer_next(buffer: &mut [u8], lengths: &mut [u32], room: &mut [u8], text: &mut [u8]) -> bool {
     match next_record(buffer) {
         Next::Record(n) => {
-            let line = answer(first(n, buffer), room);
+            let line = answer(first(n, buffer), lengths, room);
             write_line(line, room, text)
         }
         Next::Broken => {
@@ -59,8 +69,8 @@ fn answer_next(buffer: &mut [u8], room: &mut [u8], text: &mut [u8]) -> bool {
     }
 }
 
-// The line of a record.
-fn answer(asked: &[u8], room: &mut [u8]) -> Line {
+// The line of a record. What an operation takes as lengths is gathered in the slice lent for it.
+fn answer(asked: &[u8], lengths: &mut [u32], room: &mut [u8]) -> Line {
     if asked.len() == 0 {
         return Line::unasked();
     }
@@ -71,8 +81,12 @@ fn answer(asked: &[u8], room: &mut [u8]) -> Line {
         2 => numbers::read_dict_integer(args),
         3 => numbers::write_charstring_number(args, room),
         4 => numbers::write_dict_integer(args, room),
+        5 => indexes::read_index(args),
+        6 => indexes::read_entry(args, room),
+        7 => indexes::write_index(args, lengths, room),
         9 => numbers::call_index(args),
         10 => numbers::callee(args),
+        11 => indexes::well_formed(args),
         _ => Line::unasked(),
     }
 }

@@ -11,6 +11,15 @@ pub(crate) fn fill(room: &mut [u8]) {
     }
 }
 
+// Copies s to the start of the room, or as much of it as fits: bytes to show that stand elsewhere.
+pub(crate) fn copy(s: &[u8], room: &mut [u8]) {
+    let mut i = 0;
+    while i < s.len() && i < room.len() {
+        room[i] = s[i];
+        i += 1;
+    }
+}
+
 // Whether a byte behind the first n is not as lent.
 pub(crate) fn changed(n: usize, room: &[u8]) -> bool {
     let mut i = n;

@@ -10,7 +10,7 @@ use Rattle.number.specs.Answer.{Answer, accepted, refused}
 abbrev pub nonzero : ℕ → Bool
 nonzero n = not (eqb n 0)
 
--- A number of document 01, and what is at the place.
+-- A number of document 01, and what is at the place; of several places, a record of what is at each.
 pub record Told (A : Type 0) : Type 0 where
   pub number : ℕ
   pub place : A
@@ -18,7 +18,7 @@ pub record Told (A : Type 0) : Type 0 where
 abbrev pub told : {A : Type 0} → ℕ → A → Told A
 told n x = record { number = n; place = x }
 
--- accepted: 0 and the value; refused: the number, and the place as it was
+-- accepted: 0 and the value; refused: the number, and each place as it was
 unfoldable pub tell : {A : Type 0} → Answer A → A → Told A
 tell (accepted x) old = told 0 x
 tell (refused n v) old = told n old

@@ -1,10 +1,15 @@
 // The C functions, thin over the crates below. Each answers 0 or a refusal's number of document 01,
 // and leaves a place for a value that the answer does not give as it was.
+use index::EntryRead;
+use index::IndexRead;
+use index::read_entry;
+use index::read_index;
 use number::Operand;
 use number::Whole;
 use number::call_index;
 ghost use mathlib.Core.Path.{_≡_};
 ghost use Rattle.number.specs.Call.{callIndex};
+ghost use Rattle.index.specs.Index.{extent, place as entryPlace};
 ghost use Rattle.ighzamrel.specs.Told.{nonzero, told, tell};
 
 // The index that an operand is at a call: 0 and the index, or 7. `kind` is 0 for an integer, else a
@@ -22,4 +27,44 @@ pub extern "C" fn ighzamrel_call_index(kind: u32, value: i32, profile: u32, inde
     };
     *index = z;
     0
+}
+
+// The INDEX at the start of the bytes: 0, how many entries it has and how many bytes it takes; or 20
+// or 21.
+#[no_mangle]
+pub extern "C" fn ighzamrel_read_index(bytes: &[u8], count: &mut u32, taken: &mut usize) -> u32
+    ensures { λ r. ⌜ told r (record { entries = now (count .exit); taken = now (taken .exit) }) ≡ tell (extent 2 (now (bytes .entry))) (record { entries = now (count .entry); taken = now (taken .entry) }) ⌝ }
+{
+    match read_index(bytes) {
+        IndexRead::Read(n, reach) => {
+            *count = n;
+            *taken = reach;
+            0
+        }
+        IndexRead::Lacking => 20,
+        IndexRead::BadSize => 21,
+    }
+}
+
+// Entry `number` of the INDEX at the start of the bytes: 0, its place, counted from the first of
+// them, and its length; or 20, 21 or 25.
+#[no_mangle]
+pub extern "C" fn ighzamrel_read_entry(
+    bytes: &[u8],
+    number: u32,
+    place: &mut usize,
+    length: &mut usize,
+) -> u32
+    ensures { λ r. ⌜ told r (record { start = now (place .exit); size = now (length .exit) }) ≡ tell (entryPlace 2 (now (bytes .entry)) number) (record { start = now (place .entry); size = now (length .entry) }) ⌝ }
+{
+    match read_entry(bytes, number) {
+        EntryRead::Entry(at, n) => {
+            *place = at;
+            *length = n;
+            0
+        }
+        EntryRead::Lacking => 20,
+        EntryRead::BadSize => 21,
+        EntryRead::Absent => 25,
+    }
 }

@@ -157,7 +157,7 @@ module _ (s : List ℕ) (h : Bytes s) where
   entry-bytes x body (accepted p) b e = let same : x ≡ body = cc in subst Bytes same b
   entry-bytes x body (refused k v) b e = let w : _≡_ {A = ℕ} 0 1 = cc in absurd (omega arith)
 
-lists-plain : (w : ℕ) (globals locals : List ℕ) → Bytes globals → Bytes locals → Plain (listsOf w globals locals)
+pub lists-plain : (w : ℕ) (globals locals : List ℕ) → Bytes globals → Bytes locals → Plain (listsOf w globals locals)
 unfolding listsOf subrsOf
 lists-plain w globals locals g l Local k body e = entry-bytes locals l (part w locals k) body (place w locals k) (part-bytes locals l w k) e
 lists-plain w globals locals g l Global k body e = entry-bytes globals g (part w globals k) body (place w globals k) (part-bytes globals g w k) e

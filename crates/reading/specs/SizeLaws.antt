@@ -66,7 +66,7 @@ module _ (rules : Rules) where
   unfolding spelled
   plainly-most p = let h = operator-most p in omega arith
 
-  valid-most : (f : List Item) → Valid rules f → length (flat f) ≤ longestItem rules * length f
+  pub valid-most : (f : List Item) → Valid rules f → length (flat f) ≤ longestItem rules * length f
   unfolding flat spelled
   valid-most f none = zero-le
   valid-most f (number-behind o g p l v) = more g (operand o) (valid-most g v) (let h = spelling-most false o in omega arith)
@@ -90,7 +90,7 @@ struck-fewer (call c ∷ h) = let k = struck-fewer h in omega (arith, length-dro
 struck-fewer (return ∷ h) = let k = struck-fewer h in omega arith
 
 module _ (rules : Rules) (lists : Lists) (budget : ℕ) (plain : Plain lists) where
-  ends-most : (e : Ending) (s : State) → Ends rules e s → length (flat (struck (s .shown))) ≤ longestItem rules * length (struck (s .shown))
+  pub ends-most : (e : Ending) (s : State) → Ends rules e s → length (flat (struck (s .shown))) ≤ longestItem rules * length (struck (s .shown))
   ends-most back s g = valid-most rules _ (g .valid)
   ends-most ended s g = whole-most rules _ (g .whole)
   ends-most (stopped n) s g = valid-most rules _ (g .valid)

@@ -163,10 +163,10 @@ module _ (rules : Rules) where
   stateOf f = record { left = leftBy rules f; shown = shownOf f; within = [] }
 
   module _ (lists : Lists) (budget levels : ℕ) (below : List ℕ → State → Run) (size : ℕ) where
-    abbrev runs : ℕ → List ℕ → State → Run
+    abbrev pub runs : ℕ → List ℕ → State → Run
     runs = tokensOf rules lists budget levels below size
 
-    run-step : (fuel : ℕ) (bytes : List ℕ) (s : State) → 0 < length bytes
+    pub run-step : (fuel : ℕ) (bytes : List ℕ) (s : State) → 0 < length bytes
         → runs (suc fuel) bytes s ≡ after (λ more t. runs fuel more t) below (step rules lists levels (size - length bytes) budget bytes s)
     unfolding tokensOf
     run-step fuel [] s h = absurd (omega arith)

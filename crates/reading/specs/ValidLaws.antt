@@ -161,7 +161,7 @@ module _ (rules : Rules) (lists : Lists) (budget : ℕ) (plain : Plain lists) wh
     operator-cut : (p : Operator) (rest : List ℕ) → cut bytes ≡ token (operator p) rest → Cuttable p × Bytes rest
     operator-cut p rest q = let c = cut-off (operator p) rest bytes h q in (c .sound, c .behind)
 
-    good-goes : (x : Step) → Goes rules lists levels at bytes s x → Led rules lists budget Bytes (Good rules) (Ends rules) levels x
+    pub good-goes : (x : Step) → Goes rules lists levels at bytes s x → Led rules lists budget Bytes (Good rules) (Ends rules) levels x
     good-goes x (pushes o rest q l) = let c = cut-off (number o) rest bytes h q in (c .behind, number-good rules s g o (c .sound) l)
     good-goes x (stems p rest q k l) = let c = operator-cut p rest q in (c .1, stem-good rules s g p (c .0) k l)
     good-goes x (clears p rest q k) = let c = operator-cut p rest q in (c .1, clear-good rules s g p (c .0) k)

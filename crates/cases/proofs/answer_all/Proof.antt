@@ -1,4 +1,4 @@
--- `cases::answer_all` is safe and ends. The measure is the count of records that are left; the three slices keep their lengths. Assumes nothing.
+-- `cases::answer_all` is safe and ends. The measure is the count of records that are left; the four slices keep their lengths. Assumes nothing.
 use mathlib.Core.Path.{_≡_}
 use lib.ListN.{length}
 use borrow.Author.Needs.{needs}
@@ -6,10 +6,11 @@ use Rattle.cases.proofs.answer_all.Statement.{statement}
 use Rattle.cases.proofs.answer_all.Tie as tie
 
 abbrev Inv-loop : tie.InvT-loop
-Inv-loop buffer₀ room₀ text₀ records₀ buffer room text records = (length buffer ≡ length buffer₀) × (length room ≡ length room₀) × (length text ≡ length text₀)
+Inv-loop buffer₀ lengths₀ room₀ text₀ records₀ buffer lengths room text records =
+    (length buffer ≡ length buffer₀) × (length lengths ≡ length lengths₀) × (length room ≡ length room₀) × (length text ≡ length text₀)
 
 abbrev μ-loop : tie.MeasureT-loop
-μ-loop buffer₀ room₀ text₀ records₀ buffer room text records = records
+μ-loop buffer₀ lengths₀ room₀ text₀ records₀ buffer lengths room text records = records
 
 loop-holds : tie.Need-loop-holds Inv-loop μ-loop
 loop-holds c = search needs
@@ -35,17 +36,23 @@ same-length-2 c = search needs
 same-length-3 : tie.Need-same-length-3 Inv-loop μ-loop
 same-length-3 c = search needs
 
-returns : tie.Need-returns Inv-loop μ-loop
-returns c = search needs
-
 same-length-4 : tie.Need-same-length-4 Inv-loop μ-loop
 same-length-4 c = search needs
+
+returns : tie.Need-returns Inv-loop μ-loop
+returns c = search needs
 
 same-length-5 : tie.Need-same-length-5 Inv-loop μ-loop
 same-length-5 c = search needs
 
 same-length-6 : tie.Need-same-length-6 Inv-loop μ-loop
 same-length-6 c = search needs
+
+same-length-7 : tie.Need-same-length-7 Inv-loop μ-loop
+same-length-7 c = search needs
+
+same-length-8 : tie.Need-same-length-8 Inv-loop μ-loop
+same-length-8 c = search needs
 
 returns-2 : tie.Need-returns-2 Inv-loop μ-loop
 returns-2 c = search needs
@@ -64,8 +71,10 @@ answer-all-spec =
     same-length
     same-length-2
     same-length-3
-    returns
     same-length-4
+    returns
     same-length-5
     same-length-6
+    same-length-7
+    same-length-8
     returns-2)

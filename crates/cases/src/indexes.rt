@@ -1,0 +1,125 @@
+// The operations over the crate index, each under the arguments that it takes, and the lines of that
+// crate's answers.
+use crate::arguments::bytes_at;
+use crate::arguments::first;
+use crate::arguments::shaped;
+use crate::arguments::word_at;
+use crate::line::Line;
+use crate::room::copy;
+use crate::room::fill;
+use index::EntryRead;
+use index::Formed;
+use index::IndexRead;
+use index::IndexWritten;
+
+// 5: bytes.
+pub(crate) fn read_index(args: &[u8]) -> Line {
+    if !shaped(args, 0, 1) {
+        return Line::unasked();
+    }
+    index_read(index::read_index(bytes_at(args, 0)))
+}
+
+// 6: number, bytes.
+pub(crate) fn read_entry(args: &[u8], room: &mut [u8]) -> Line {
+    if !shaped(args, 4, 1) {
+        return Line::unasked();
+    }
+    let number = word_at(args, 0);
+    let s = bytes_at(args, 4);
+    let part = index::entry_part(s, number);
+    copy(part, room);
+    entry_read(
+        index::read_entry(s, number),
+        first(part.len(), room),
+        part.len(),
+    )
+}
+
+// 7: n, n lengths, bytes, room.
+pub(crate) fn write_index(args: &[u8], lengths: &mut [u32], room: &mut [u8]) -> Line {
+    if args.len() < 8 {
+        return Line::unasked();
+    }
+    let n = word_at(args, 0) as usize;
+    let last = args.len() - 4;
+    let joined = 4 + 4 * n;
+    if !shaped(first(last, args), joined, 1) {
+        return Line::unasked();
+    }
+    if lengths.len() < n {
+        return Line::unasked();
+    }
+    let size = word_at(args, last) as usize;
+    if room.len() < size {
+        return Line::unasked();
+    }
+    let given = &mut lengths[0..n];
+    read_words(&args[4..], given);
+    let lent = &mut room[0..size];
+    fill(lent);
+    let answer = index::write_index(given, bytes_at(args, joined), lent);
+    index_written(answer, lent)
+}
+
+// 11: bytes.
+pub(crate) fn well_formed(args: &[u8]) -> Line {
+    if !shaped(args, 0, 1) {
+        return Line::unasked();
+    }
+    formed(index::well_formed(bytes_at(args, 0)))
+}
+
+// `0 COUNT TAKEN`.
+fn index_read(answer: IndexRead) -> Line {
+    match answer {
+        IndexRead::Read(count, taken) => Line::of(0).value(count as u64).value(taken as u64),
+        IndexRead::Lacking => Line::of(20),
+        IndexRead::BadSize => Line::of(21),
+    }
+}
+
+// `0 PLACE LENGTH HEX`, where HEX is the entry's part, of which a copy and the length are given. The
+// line is marked where that length is not the one that the answer says, which is 0 in a refusal.
+fn entry_read(answer: EntryRead, part: &[u8], has: usize) -> Line {
+    match answer {
+        EntryRead::Entry(place, length) => Line::of(0)
+            .value(place as u64)
+            .value(length as u64)
+            .shows(has, part)
+            .marks(has != length),
+        EntryRead::Lacking => Line::of(20).marks(has != 0),
+        EntryRead::BadSize => Line::of(21).marks(has != 0),
+        EntryRead::Absent => Line::of(25).marks(has != 0),
+    }
+}
+
+fn index_written(answer: IndexWritten, room: &[u8]) -> Line {
+    match answer {
+        IndexWritten::Bytes(n) => Line::of(0).value(n as u64).shows(n, room),
+        IndexWritten::Short(n) => Line::of(13).value(n as u64).keeps(room),
+        IndexWritten::TooMany => Line::of(22).keeps(room),
+        IndexWritten::TooLong => Line::of(23).keeps(room),
+        IndexWritten::Mismatch => Line::of(24).keeps(room),
+    }
+}
+
+// `0 COUNT`, or 25 and the first bad entry's number: 0 where a last offset of 0 emptied the list.
+fn formed(answer: Formed) -> Line {
+    match answer {
+        Formed::Yes(count) => Line::of(0).value(count as u64),
+        Formed::Lacking => Line::of(20),
+        Formed::BadSize => Line::of(21),
+        Formed::Emptied => Line::of(25).value(0),
+        Formed::Bad(i) => Line::of(25).value(i as u64),
+    }
+}
+
+// Reads the numbers of four bytes at the start of s, as many as there are places for.
+fn read_words(s: &[u8], words: &mut [u32]) {
+    let mut i = 0;
+    while i < words.len() && i < s.len() / 4 {
+        words[i] = word_at(s, 4 * i);
+        i += 1;
+    }
+}
