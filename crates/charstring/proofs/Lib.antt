@@ -1,0 +1,5 @@
+pub mod Stored
+pub mod Packed
+pub mod Cuts
+pub mod Operators
+pub mod Targets

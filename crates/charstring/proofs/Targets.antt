@@ -1,0 +1,44 @@
+-- The entry that a call enters. Assumes nothing.
+use mathlib.Core.Path.{_≡_}
+use mathlib.Core.Bool.{Bool}
+use mathlib.Core.List.{List, []}
+use Prim.Native.Nat.{ℕ, _+_, _-_}
+use native.Mathlib.Nat.{add-sub-cancel-left}
+use native.Mathlib.Omega.{arith}
+use borrow.Author.Tests.{eq-eqb, ne-eqb, lt-ltb, le-ltb}
+use Rattle.number.specs.Answer.{Answer, accepted, refused}
+use Rattle.number.specs.Call.{callee}
+use Rattle.number.specs.declared.Operand.{Operand}
+use Rattle.index.specs.Index.{Place, place}
+use Rattle.index.specs.IndexLaws.{lies}
+use Rattle.charstring.specs.Words.{enterBy, aimBy, aimed}
+
+-- ---- an entry
+
+pub no-entry : (levels tail n : ℕ) (v : List ℕ) (x : Answer Place) → refused n v ≡ x → refused 9 [] ≡ enterBy levels tail x
+unfolding enterBy
+no-entry levels tail n v x e = rw (← e)
+
+module _ (levels tail : ℕ) (start size : ℕ) (x : Answer Place) (e : lies start size ≡ x) where
+  pub too-deep : levels ≡ 0 → refused 10 [] ≡ enterBy levels tail x
+  unfolding enterBy
+  too-deep h = rw (← e, eq-eqb levels 0 h)
+
+  pub not-last : (levels ≡ 0 → ⊥) → tail ≡ 0 → refused 8 [] ≡ enterBy levels tail x
+  unfolding enterBy
+  not-last h k = rw (← e, ne-eqb levels 0 h, le-ltb 0 tail (omega arith))
+
+  pub entered : (levels ≡ 0 → ⊥) → (tail ≡ 0 → ⊥) → accepted (record { start = start; size = start + size - start }) ≡ enterBy levels tail x
+  unfolding enterBy
+  entered h k = rw (← e, ne-eqb levels 0 h, lt-ltb 0 tail (omega arith), add-sub-cancel-left start size)
+
+-- ---- the callee
+
+module _ (list : List ℕ) (count : ℕ) (o : Operand) (exact : Bool) (levels tail : ℕ) where
+  pub aimed-entry : (k : ℕ) → accepted k ≡ callee exact count o → enterBy levels tail (place 2 list k) ≡ aimed list count o exact levels tail
+  unfolding aimed aimBy
+  aimed-entry k e = rw (← e)
+
+  pub aimed-none : (n : ℕ) → refused n [] ≡ callee exact count o → refused n [] ≡ aimed list count o exact levels tail
+  unfolding aimed aimBy
+  aimed-none n e = rw (← e)

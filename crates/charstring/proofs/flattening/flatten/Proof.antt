@@ -1,0 +1,119 @@
+use Rattle.charstring.specs.declared.flattening.Measured.{Measured}
+use Rattle.charstring.specs.VerdictLaws.{told, by-stop, by-short, by-flat, held}
+use Rattle.charstring.specs.Verdicts.{measured}
+use Rattle.reading.specs.AnswerLaws.{gate-open}
+use Rattle.reading.specs.Answers.{Outcome, listGate, flattening}
+use Rattle.index.proofs.list.Formed as formed-type
+use Rattle.index.specs.declared.list.Formed.the-variants.{Yes, Lacking, BadSize, Emptied, Bad}
+use Rattle.index.specs.declared.list.Formed.{Formed}
+use Rattle.index.specs.Formed.{Formation, formation, formed}
+use Rattle.number.specs.Answer.{refused}
+use denote.Enum.Declared.{tagOf}
+use types.Run.{OneOf, miss}
+use lib.ListN.{length}
+use Prim.Native.Nat.{ℕ}
+use mathlib.Core.List.{List, [], _∷_}
+use mathlib.Core.Path.{_≡_, refl, sym, ap, _∙_}
+use borrow.Author.Needs.{needs}
+use Rattle.charstring.proofs.flattening.flatten.Statement.{statement}
+use Rattle.charstring.proofs.flattening.flatten.Tie as tie
+use Rattle.charstring.proofs.flattening.flatten.Reads as reads
+use Rattle.charstring.proofs.flattening.flatten.Lts as lts
+use Rattle.charstring.proofs.flattening.fill.Reads as fill-reads
+use Rattle.charstring.proofs.flattening.measure.Reads as measure-reads
+use Rattle.index.proofs.well_formed.Reads as well-formed-reads
+
+-- a list that is not well formed, by each of its reasons
+shut : (k : ℕ) (out : List ℕ) (f : Formation) (then : Outcome) (r : Formed) → OneOf (1 ∷ 2 ∷ 3 ∷ 4 ∷ []) (tagOf formed-type.the-type r) → formed r ≡ f
+    → told (refused k []) out ≡ listGate k out f then
+unfolding listGate
+shut k out f then (Yes n) h e = absurd (miss (1 ∷ 2 ∷ 3 ∷ 4 ∷ []) 0 tt h)
+shut k out f then Lacking h e = ap (λ (g : Formation). listGate k out g then) e
+shut k out f then BadSize h e = ap (λ (g : Formation). listGate k out g then) e
+shut k out f then Emptied h e = ap (λ (g : Formation). listGate k out g then) e
+shut k out f then (Bad i) h e = ap (λ (g : Formation). listGate k out g then) e
+
+opened : (k : ℕ) (out : List ℕ) (f : Formation) (then : Outcome) (r : Formed) → OneOf (0 ∷ []) (tagOf formed-type.the-type r) → formed r ≡ f → then ≡ listGate k out f then
+opened k out f then (Yes n) h e = sym (gate-open k out f n (sym e) then)
+opened k out f then Lacking h e = absurd (miss (0 ∷ []) 1 tt h)
+opened k out f then BadSize h e = absurd (miss (0 ∷ []) 2 tt h)
+opened k out f then Emptied h e = absurd (miss (0 ∷ []) 3 tt h)
+opened k out f then (Bad i) h e = absurd (miss (0 ∷ []) 4 tt h)
+
+-- src/flattening.rt:43:26
+well-formed-requires : tie.Need-well-formed-requires
+well-formed-requires c κs = search needs
+
+enum-told : tie.Need-enum-told
+enum-told c = search needs
+
+-- src/flattening.rt:44:9
+returns : tie.Need-returns
+unfolding flattening
+returns c = shut 1 _ _ _ (c .before .well-formed .result) (c .match .keys2) (c .before .well-formed .ensures)
+
+-- src/flattening.rt:46:26
+well-formed-requires-2 : tie.Need-well-formed-requires-2
+well-formed-requires-2 c κs = search needs
+
+enum-told-2 : tie.Need-enum-told-2
+enum-told-2 c = search needs
+
+-- src/flattening.rt:47:9
+returns-2 : tie.Need-returns-2
+unfolding flattening
+returns-2 c = shut 2 _ _ _ (c .before .well-formed2 .result) (c .match2 .keys2) (c .before .well-formed2 .ensures) ∙ opened 1 _ _ _ (c .before .before .before .before .well-formed .result) (c .before .before .before .match .keys1) (c .before .before .before .before .well-formed .ensures)
+
+-- src/flattening.rt:49:11
+measure-requires : tie.Need-measure-requires
+measure-requires c κs = search needs
+
+-- src/flattening.rt:50:27
+enum-known-k : tie.Need-enum-known-k
+enum-known-k c = search needs
+
+-- src/flattening.rt:51:24
+enum-known-n : tie.Need-enum-known-n
+enum-known-n c = search needs
+
+-- src/flattening.rt:53:17
+returns-3 : tie.Need-returns-3
+unfolding flattening
+returns-3 c = by-short _ _ _ _ (ap measured (sym (c .before .before .n .given .1)) ∙ c .before .before .before .before .measure .ensures) (c .if1 .taken) ∙ opened 2 _ _ _ (c .before .before .before .before .before .before .before .well-formed2 .result) (c .before .before .before .before .before .before .match2 .keys1) (c .before .before .before .before .before .before .before .well-formed2 .ensures) ∙ opened 1 _ _ _ (c .before .before .before .before .before .before .before .before .before .before .well-formed .result) (c .before .before .before .before .before .before .before .before .before .match .keys1) (c .before .before .before .before .before .before .before .before .before .before .well-formed .ensures)
+
+-- src/flattening.rt:55:13
+fill-requires : tie.Need-fill-requires
+fill-requires c κs = held (c .before .before .before .before .before .before .before .before .before .before .before .before .before .before .before .before .args .out .now) _ _ _ (ap measured (sym (c .before .before .before .n .given .1)) ∙ c .before .before .before .before .before .measure .ensures) _ (c .before .if1 .left)
+
+-- src/flattening.rt:33:1
+returns-4 : tie.Need-returns-4
+unfolding flattening
+returns-4 c = by-stop _ _ _ _ (ap measured (sym (c .before .k .given .1)) ∙ c .before .before .before .measure .ensures) ∙ opened 2 _ _ _ (c .before .before .before .before .before .before .well-formed2 .result) (c .before .before .before .before .before .match2 .keys1) (c .before .before .before .before .before .before .well-formed2 .ensures) ∙ opened 1 _ _ _ (c .before .before .before .before .before .before .before .before .before .well-formed .result) (c .before .before .before .before .before .before .before .before .match .keys1) (c .before .before .before .before .before .before .before .before .before .well-formed .ensures)
+
+-- src/flattening.rt:33:1
+same-length : tie.Need-same-length
+same-length c = search needs
+
+-- src/flattening.rt:33:1
+returns-5 : tie.Need-returns-5
+unfolding flattening
+returns-5 c = by-flat _ _ _ _ (ap measured (sym (c .before .before .before .before .before .before .n .given .1)) ∙ c .before .before .before .before .before .before .before .before .measure .ensures) (c .before .before .before .before .if1 .left) _ (c .before .before .fill .ensures) ∙ opened 2 _ _ _ (c .before .before .before .before .before .before .before .before .before .before .before .well-formed2 .result) (c .before .before .before .before .before .before .before .before .before .before .match2 .keys1) (c .before .before .before .before .before .before .before .before .before .before .before .well-formed2 .ensures) ∙ opened 1 _ _ _ (c .before .before .before .before .before .before .before .before .before .before .before .before .before .before .well-formed .result) (c .before .before .before .before .before .before .before .before .before .before .before .before .before .match .keys1) (c .before .before .before .before .before .before .before .before .before .before .before .before .before .before .well-formed .ensures)
+
+pub flatten-spec : {M : Type 1} → statement M
+flatten-spec =
+    tie.close
+    (tie.spec
+    well-formed-requires
+    enum-told
+    returns
+    well-formed-requires-2
+    enum-told-2
+    returns-2
+    measure-requires
+    enum-known-k
+    enum-known-n
+    returns-3
+    fill-requires
+    returns-4
+    same-length
+    returns-5)

@@ -1,0 +1,9 @@
+pub mod Words
+pub mod WordsLaws
+pub mod Short
+pub mod Run
+pub mod LookLaws
+pub mod TurnLaws
+pub mod ArmLaws
+pub mod Verdicts
+pub mod VerdictLaws

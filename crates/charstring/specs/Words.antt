@@ -1,0 +1,77 @@
+-- What the code holds, in the reading's words.
+use mathlib.Core.Path.{_≡_}
+use mathlib.Core.Bool.{Bool, true, false, cond}
+use mathlib.Core.List.{List, [], _∷_}
+use Prim.Native.Nat.{ℕ, zero, suc, _+_, _-_, _*_, _%_, _^_, _≤_, _<_}
+use lib.Dec.{leb, ltb, eqb}
+use lib.ListN.{length, getD, set, take, drop}
+use Rattle.number.specs.Answer.{Answer, accepted, refused}
+use Rattle.number.specs.Signed.{signed}
+use Rattle.number.specs.Call.{callee}
+use Rattle.number.specs.declared.Operand.{Operand}
+use Rattle.index.specs.Index.{Place, place}
+use Rattle.reading.specs.Tokens.{Token as Seen, number, operator, Cut, token, lacking, cut}
+use Rattle.reading.specs.Answers.{numberOf}
+use Rattle.reading.specs.declared.Refusal.{Refusal}
+use Rattle.charstring.specs.declared.token.Token.{Token}
+use Rattle.charstring.specs.declared.token.Token.the-variants.{Number, Operator, Lacking}
+use Rattle.charstring.specs.declared.subroutines.Target.{Target}
+use Rattle.charstring.specs.declared.subroutines.Target.the-variants.{Enter, No}
+
+-- ---- a token that was cut
+
+abbrev pub cutOf : List ℕ → Token → Cut
+cutOf cs (Number o next) = token (number o) (drop next cs)
+cutOf cs (Operator p next) = token (operator p) (drop next cs)
+cutOf cs Lacking = lacking
+
+-- it ends after it starts, and within the string
+abbrev pub Ahead : ℕ → ℕ → Token → Type 0
+Ahead i n (Number o next) = (i < next) × (next ≤ n)
+Ahead i n (Operator p next) = (i < next) × (next ≤ n)
+Ahead i n Lacking = Unit {0}
+
+-- ---- operands as words
+
+-- the operand that a word holds
+unfoldable pub unpackOf : ℕ → Operand
+unpackOf w = record { fixed = leb 4294967296 w; value = signed (2 ^ 31) (w % 4294967296) }
+
+-- the operands of the first n words, the latest first
+unfoldable pub stackOf : List ℕ → ℕ → List Operand
+stackOf l zero = []
+stackOf l (suc n) = unpackOf (getD l n 0) ∷ stackOf l n
+
+-- ---- storing below a limit
+
+-- l with the byte b at `at`, if that is below the limit
+unfoldable pub putAt : ℕ → ℕ → ℕ → List ℕ → List ℕ
+putAt limit at b l = cond (ltb at limit) (set l at b) l
+
+unfoldable pub puts : ℕ → ℕ → List ℕ → List ℕ → List ℕ
+puts limit at [] l = l
+puts limit at (b ∷ bs) l = puts limit (at + 1) bs (putAt limit at b l)
+
+-- ---- the entry that a call enters
+
+-- by document 01's order: 10, 8, where the entry is there
+unfoldable pub enterBy : ℕ → ℕ → Answer Place → Answer Place
+enterBy levels tail (refused n v) = refused 9 []
+enterBy levels tail (accepted p) = cond (eqb levels 0) (refused 10 []) (cond (ltb 0 tail) (accepted p) (refused 8 []))
+
+-- 7, or 9 for the number; 9 for an entry that is absent
+unfoldable pub aimBy : List ℕ → ℕ → ℕ → Answer ℕ → Answer Place
+aimBy list levels tail (refused n v) = refused n []
+aimBy list levels tail (accepted k) = enterBy levels tail (place 2 list k)
+
+unfoldable pub aimed : List ℕ → ℕ → Operand → Bool → ℕ → ℕ → Answer Place
+aimed list count o exact levels tail = aimBy list levels tail (callee exact count o)
+
+abbrev pub targetOf : Target → Answer Place
+targetOf (Enter from to) = accepted (record { start = from; size = to - from })
+targetOf (No k) = refused (numberOf k) []
+
+-- an entry that is entered lies within the list
+abbrev pub Inside : ℕ → Target → Type 0
+Inside n (Enter from to) = (from ≤ to) × (to ≤ n)
+Inside n (No k) = Unit {0}

@@ -1,0 +1,13 @@
+// Flattening a Type 2 charstring.
+mod argstack;
+mod charstring;
+mod flattening;
+mod look;
+mod operator;
+mod store;
+mod subroutines;
+mod token;
+
+pub use crate::flattening::Measured;
+pub use crate::flattening::flatten;
+pub use crate::flattening::measure;

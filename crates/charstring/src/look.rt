@@ -1,0 +1,152 @@
+// What the token at a place asks for, and the refusals 3 to 7, 11 and 12 in document 01's order.
+use crate::operator::kind_of;
+use crate::token::Token;
+use crate::token::token_at;
+use number::Operand;
+use reading::Kind;
+use reading::Operator;
+use reading::Refusal;
+use reading::Which;
+ghost use mathlib.Core.Path.{_≡_};
+ghost use Prim.Native.Nat.{_≤_};
+ghost use lib.ListN.{length};
+ghost use Rattle.reading.specs.Rules.{type2};
+ghost use Rattle.reading.specs.declared.Kind.the-variants.{Stem, Mask};
+ghost use Rattle.charstring.specs.Run.{Asked, Looked};
+
+pub(crate) enum Request {
+    // An operand, and where the next token starts.
+    Push(Operand, usize),
+    // An operator that clears the stack, where the next token starts, and the hints then.
+    Plain(Operator, usize, usize),
+    // A mask operator, where its bytes start and end, and the operands and the hints then.
+    Mask(Operator, usize, usize, usize, usize),
+    // A call, and where the next token starts.
+    Call(Which, usize),
+    Return,
+    End(Operator),
+    // There are no more bytes.
+    Out,
+    Bad(Refusal),
+}
+
+pub(crate) fn look(
+    cs: &[u8],
+    i: usize,
+    budget: u32,
+    operands: usize,
+    limit: usize,
+    tokens: u32,
+    count: usize,
+    hints: usize,
+    mask: usize,
+) -> Request
+    requires { ⌜ (hints ≤ 65535) × (count ≤ 65535) ⌝ }
+    ensures { λ r. ⌜ Looked (now (cs .entry)) i budget operands limit tokens count hints mask r ⌝ }
+{
+    if cs.len() <= i {
+        return Request::Out;
+    }
+    if budget <= tokens {
+        return Request::Bad(Refusal::BudgetSpent);
+    }
+    match token_at(cs, i) {
+        Token::Lacking => Request::Bad(Refusal::BytesLacking),
+        Token::Number(o, next) => {
+            if operands <= count {
+                return Request::Bad(Refusal::TooManyOperands);
+            }
+            Request::Push(o, next)
+        }
+        Token::Operator(p, next) => ask(cs.len(), next, p, limit, count, hints, mask),
+    }
+}
+
+// What the operator p asks for, of a string of n bytes, where what stands behind it starts at `next`.
+fn ask(
+    n: usize,
+    next: usize,
+    p: Operator,
+    limit: usize,
+    count: usize,
+    hints: usize,
+    mask: usize,
+) -> Request
+    requires { ⌜ (hints ≤ 65535) × (count ≤ 65535) × (next ≤ n) ⌝ }
+    ensures { λ r. ⌜ Asked n next p limit count hints mask r ⌝ }
+{
+    match kind_of(p) {
+        Kind::Stem => ask_stem(n, next, p, limit, count, hints, mask),
+        Kind::Clear => Request::Plain(p, next, hints),
+        Kind::Mask => ask_mask(n, next, p, limit, count, hints, mask),
+        Kind::Call(which) => {
+            if count == 0 {
+                return Request::Bad(Refusal::NoIndex);
+            }
+            Request::Call(which, next)
+        }
+        Kind::Return => Request::Return,
+        Kind::End => {
+            if 4 <= count {
+                return Request::Bad(Refusal::Composite);
+            }
+            Request::End(p)
+        }
+        Kind::Unknown => Request::Bad(Refusal::UnknownOperator),
+    }
+}
+
+// A stem's hints.
+fn ask_stem(
+    n: usize,
+    next: usize,
+    p: Operator,
+    limit: usize,
+    count: usize,
+    hints: usize,
+    mask: usize,
+) -> Request
+    requires { ⌜ (hints ≤ 65535) × (count ≤ 65535) ⌝ }
+    requires { ⌜ type2 p ≡ Stem ⌝ }
+    ensures { λ r. ⌜ Asked n next p limit count hints mask r ⌝ }
+{
+    let h = hints + count / 2;
+    if limit < h {
+        return Request::Bad(Refusal::TooManyHints);
+    }
+    Request::Plain(p, next, h)
+}
+
+// A mask's hints and bytes. Once its length is fixed, the operands stay.
+fn ask_mask(
+    n: usize,
+    next: usize,
+    p: Operator,
+    limit: usize,
+    count: usize,
+    hints: usize,
+    mask: usize,
+) -> Request
+    requires { ⌜ (hints ≤ 65535) × (count ≤ 65535) × (next ≤ n) ⌝ }
+    requires { ⌜ type2 p ≡ Mask ⌝ }
+    ensures { λ r. ⌜ Asked n next p limit count hints mask r ⌝ }
+{
+    if mask != 0 {
+        if limit < hints {
+            return Request::Bad(Refusal::TooManyHints);
+        }
+        if n - next < mask {
+            return Request::Bad(Refusal::BytesLacking);
+        }
+        return Request::Mask(p, next, next + mask, count, hints);
+    }
+    let h = hints + count / 2;
+    if limit < h {
+        return Request::Bad(Refusal::TooManyHints);
+    }
+    let m = (h + 7) / 8;
+    if n - next < m {
+        return Request::Bad(Refusal::BytesLacking);
+    }
+    Request::Mask(p, next, next + m, 0, h)
+}
