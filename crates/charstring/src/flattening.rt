@@ -17,7 +17,7 @@ ghost use Rattle.index.specs.Index.{extent};
 ghost use Rattle.reading.specs.Rules.{rulesOf};
 ghost use Rattle.reading.specs.Lists.{countIn, listsOf};
 ghost use Rattle.reading.specs.Reading.{stopped, tokensBy, reading};
-ghost use Rattle.reading.specs.Answers.{numberOf, flattened, flattening};
+ghost use Rattle.reading.specs.Answers.{numberOf, flattened, outcome, flattening};
 ghost use Rattle.charstring.specs.Verdicts.{measured, measureOf, Holds, filled};
 
 // A charstring's verdict, whatever the room.
@@ -46,6 +46,21 @@ pub fn flatten<'a>(
     let Formed::Yes(_) = well_formed(locals) else {
         return Flattened::BadLocals;
     };
+    write(cs, globals, locals, profile, budget, out)
+}
+
+// Writes the flat string of a charstring to the start of out, as flatten does, without a look at the lists first:
+// an entry that a list lacks answers 9.
+pub fn write<'a>(
+    cs: &'a [u8],
+    globals: &'a [u8],
+    locals: &'a [u8],
+    profile: Profile,
+    budget: u32,
+    out: &mut [u8],
+) -> Flattened
+    ensures { λ r. ⌜ record { answer = flattened r; left = now (out .exit) } ≡ outcome (now (out .entry)) (reading (rulesOf profile) (listsOf 2 (now (globals .entry)) (now (locals .entry))) budget (now (cs .entry))) ⌝ }
+{
     match measure(cs, globals, locals, profile, budget) {
         Measured::Stopped(k, tokens) => Flattened::Refused(k, tokens),
         Measured::Flat(n, tokens) => {

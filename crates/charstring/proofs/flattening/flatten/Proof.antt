@@ -1,6 +1,4 @@
-use Rattle.charstring.specs.declared.flattening.Measured.{Measured}
-use Rattle.charstring.specs.VerdictLaws.{told, by-stop, by-short, by-flat, held}
-use Rattle.charstring.specs.Verdicts.{measured}
+use Rattle.charstring.specs.VerdictLaws.{told}
 use Rattle.reading.specs.AnswerLaws.{gate-open}
 use Rattle.reading.specs.Answers.{Outcome, listGate, flattening}
 use Rattle.index.proofs.list.Formed as formed-type
@@ -10,7 +8,6 @@ use Rattle.index.specs.Formed.{Formation, formation, formed}
 use Rattle.number.specs.Answer.{refused}
 use denote.Enum.Declared.{tagOf}
 use types.Run.{OneOf, miss}
-use lib.ListN.{length}
 use Prim.Native.Nat.{ℕ}
 use mathlib.Core.List.{List, [], _∷_}
 use mathlib.Core.Path.{_≡_, refl, sym, ap, _∙_}
@@ -19,8 +16,7 @@ use Rattle.charstring.proofs.flattening.flatten.Statement.{statement}
 use Rattle.charstring.proofs.flattening.flatten.Tie as tie
 use Rattle.charstring.proofs.flattening.flatten.Reads as reads
 use Rattle.charstring.proofs.flattening.flatten.Lts as lts
-use Rattle.charstring.proofs.flattening.fill.Reads as fill-reads
-use Rattle.charstring.proofs.flattening.measure.Reads as measure-reads
+use Rattle.charstring.proofs.flattening.write.Reads as write-reads
 use Rattle.index.proofs.well_formed.Reads as well-formed-reads
 
 -- a list that is not well formed, by each of its reasons
@@ -64,40 +60,18 @@ returns-2 : tie.Need-returns-2
 unfolding flattening
 returns-2 c = shut 2 _ _ _ (c .before .well-formed2 .result) (c .match2 .keys2) (c .before .well-formed2 .ensures) ∙ opened 1 _ _ _ (c .before .before .before .before .well-formed .result) (c .before .before .before .match .keys1) (c .before .before .before .before .well-formed .ensures)
 
--- src/flattening.rt:49:11
-measure-requires : tie.Need-measure-requires
-measure-requires c κs = search needs
-
--- src/flattening.rt:50:27
-enum-known-k : tie.Need-enum-known-k
-enum-known-k c = search needs
-
--- src/flattening.rt:51:24
-enum-known-n : tie.Need-enum-known-n
-enum-known-n c = search needs
-
--- src/flattening.rt:53:17
-returns-3 : tie.Need-returns-3
-unfolding flattening
-returns-3 c = by-short _ _ _ _ (ap measured (sym (c .before .before .n .given .1)) ∙ c .before .before .before .before .measure .ensures) (c .if1 .taken) ∙ opened 2 _ _ _ (c .before .before .before .before .before .before .before .well-formed2 .result) (c .before .before .before .before .before .before .match2 .keys1) (c .before .before .before .before .before .before .before .well-formed2 .ensures) ∙ opened 1 _ _ _ (c .before .before .before .before .before .before .before .before .before .before .well-formed .result) (c .before .before .before .before .before .before .before .before .before .match .keys1) (c .before .before .before .before .before .before .before .before .before .before .well-formed .ensures)
-
--- src/flattening.rt:55:13
-fill-requires : tie.Need-fill-requires
-fill-requires c κs = held (c .before .before .before .before .before .before .before .before .before .before .before .before .before .before .before .before .args .out .now) _ _ _ (ap measured (sym (c .before .before .before .n .given .1)) ∙ c .before .before .before .before .before .measure .ensures) _ (c .before .if1 .left)
-
--- src/flattening.rt:33:1
-returns-4 : tie.Need-returns-4
-unfolding flattening
-returns-4 c = by-stop _ _ _ _ (ap measured (sym (c .before .k .given .1)) ∙ c .before .before .before .measure .ensures) ∙ opened 2 _ _ _ (c .before .before .before .before .before .before .well-formed2 .result) (c .before .before .before .before .before .match2 .keys1) (c .before .before .before .before .before .before .well-formed2 .ensures) ∙ opened 1 _ _ _ (c .before .before .before .before .before .before .before .before .before .well-formed .result) (c .before .before .before .before .before .before .before .before .match .keys1) (c .before .before .before .before .before .before .before .before .before .well-formed .ensures)
+-- src/flattening.rt:49:5
+write-requires : tie.Need-write-requires
+write-requires c κs = search needs
 
 -- src/flattening.rt:33:1
 same-length : tie.Need-same-length
 same-length c = search needs
 
 -- src/flattening.rt:33:1
-returns-5 : tie.Need-returns-5
+returns-3 : tie.Need-returns-3
 unfolding flattening
-returns-5 c = by-flat _ _ _ _ (ap measured (sym (c .before .before .before .before .before .before .n .given .1)) ∙ c .before .before .before .before .before .before .before .before .measure .ensures) (c .before .before .before .before .if1 .left) _ (c .before .before .fill .ensures) ∙ opened 2 _ _ _ (c .before .before .before .before .before .before .before .before .before .before .before .well-formed2 .result) (c .before .before .before .before .before .before .before .before .before .before .match2 .keys1) (c .before .before .before .before .before .before .before .before .before .before .before .well-formed2 .ensures) ∙ opened 1 _ _ _ (c .before .before .before .before .before .before .before .before .before .before .before .before .before .before .well-formed .result) (c .before .before .before .before .before .before .before .before .before .before .before .before .before .match .keys1) (c .before .before .before .before .before .before .before .before .before .before .before .before .before .before .well-formed .ensures)
+returns-3 c = c .before .before .write .ensures ∙ opened 2 _ _ _ (c .before .before .before .before .before .before .well-formed2 .result) (c .before .before .before .before .before .match2 .keys1) (c .before .before .before .before .before .before .well-formed2 .ensures) ∙ opened 1 _ _ _ (c .before .before .before .before .before .before .before .before .before .well-formed .result) (c .before .before .before .before .before .before .before .before .match .keys1) (c .before .before .before .before .before .before .before .before .before .well-formed .ensures)
 
 pub flatten-spec : {M : Type 1} → statement M
 flatten-spec =
@@ -109,11 +83,6 @@ flatten-spec =
     well-formed-requires-2
     enum-told-2
     returns-2
-    measure-requires
-    enum-known-k
-    enum-known-n
-    returns-3
-    fill-requires
-    returns-4
+    write-requires
     same-length
-    returns-5)
+    returns-3)
