@@ -3,3 +3,5 @@ pub mod Packed
 pub mod Cuts
 pub mod Operators
 pub mod Targets
+pub mod Once
+pub mod Twice

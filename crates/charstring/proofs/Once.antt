@@ -1,0 +1,98 @@
+-- Each public function's contract fixes its result and what it leaves: any two that it allows for the same arguments are one. Stated over the
+-- contracts' own readings. Assumes nothing.
+use mathlib.Core.Path.{_≡_, refl, sym, ap, _∙_}
+use mathlib.Core.Bool.{cond}
+use Prim.Native.Nat.{ℕ}
+use lib.Dec.{eqb}
+use lib.ListN.{getD}
+use borrow.Fn.Kinds.{Dens, resT, endedOf}
+use contract.Lifetimes.{Lfts}
+use denote.Triple.Clauses.{AtExit}
+use Rattle.number.specs.Answer.{Answer, accepted, refused}
+use Rattle.reading.specs.Answers.{Flattening, Outcome, numberOf, flattened}
+use Rattle.reading.specs.declared.Refusal.{Refusal}
+use Rattle.reading.specs.declared.Refusal.the-variants.{BudgetSpent, BytesLacking, TooManyOperands, UnknownOperator, NoIndex, IndexNotLast, NoEntry, TooDeep, TooManyHints, Composite}
+use Rattle.reading.specs.declared.Flattened.{Flattened}
+use Rattle.reading.specs.declared.Flattened.the-variants.{Accepted, BadGlobals, BadLocals, Refused, Short}
+use Rattle.charstring.specs.Verdicts.{Verdict, flat-of, stopped-by, measured}
+use Rattle.charstring.specs.declared.flattening.Measured.{Measured}
+use Rattle.charstring.specs.declared.flattening.Measured.the-variants.{Flat, Stopped}
+use Rattle.charstring.proofs.flattening.flatten.Kinds as flatten-kinds
+use Rattle.charstring.proofs.flattening.flatten.Reads as flatten-reads
+use Rattle.charstring.proofs.flattening.write.Kinds as write-kinds
+use Rattle.charstring.proofs.flattening.write.Reads as write-reads
+use Rattle.charstring.proofs.flattening.measure.Kinds as measure-kinds
+use Rattle.charstring.proofs.flattening.measure.Reads as measure-reads
+
+-- ---- the ways back, from what an answer says to the answer
+
+refusal-of : ℕ → Refusal
+refusal-of k =
+    cond (eqb k 3) BudgetSpent (cond (eqb k 4) BytesLacking (cond (eqb k 5) TooManyOperands (cond (eqb k 6) UnknownOperator (cond (eqb k 7) NoIndex
+    (cond (eqb k 8) IndexNotLast (cond (eqb k 9) NoEntry (cond (eqb k 10) TooDeep (cond (eqb k 11) TooManyHints Composite))))))))
+
+refusal-undo : (k : Refusal) → refusal-of (numberOf k) ≡ k
+unfolding refusal-of
+refusal-undo BudgetSpent = refl
+refusal-undo BytesLacking = refl
+refusal-undo TooManyOperands = refl
+refusal-undo UnknownOperator = refl
+refusal-undo NoIndex = refl
+refusal-undo IndexNotLast = refl
+refusal-undo NoEntry = refl
+refusal-undo TooDeep = refl
+refusal-undo TooManyHints = refl
+refusal-undo Composite = refl
+
+flattened-of : Answer Flattening → Flattened
+flattened-of (accepted x) = Accepted (x .size) (x .tokens)
+flattened-of (refused k v) =
+    cond (eqb k 1) BadGlobals (cond (eqb k 2) BadLocals (cond (eqb k 13) (Short (getD v 0 0) (getD v 1 0)) (Refused (refusal-of k) (getD v 0 0))))
+
+-- a refusal's number is none of 1, 2 and 13
+as-refused : (k : Refusal) (t : ℕ) → flattened-of (flattened (Refused k t)) ≡ Refused (refusal-of (numberOf k)) t
+unfolding flattened-of
+as-refused BudgetSpent t = refl
+as-refused BytesLacking t = refl
+as-refused TooManyOperands t = refl
+as-refused UnknownOperator t = refl
+as-refused NoIndex t = refl
+as-refused IndexNotLast t = refl
+as-refused NoEntry t = refl
+as-refused TooDeep t = refl
+as-refused TooManyHints t = refl
+as-refused Composite t = refl
+
+flattened-undo : (r : Flattened) → flattened-of (flattened r) ≡ r
+unfolding flattened-of
+flattened-undo (Accepted n t) = refl
+flattened-undo BadGlobals = refl
+flattened-undo BadLocals = refl
+flattened-undo (Refused k t) = as-refused k t ∙ ap (λ (j : Refusal). Refused j t) (refusal-undo k)
+flattened-undo (Short n t) = refl
+
+measured-of : Verdict → Measured
+measured-of (flat-of n t) = Flat n t
+measured-of (stopped-by k t) = Stopped (refusal-of k) t
+
+measured-undo : (r : Measured) → measured-of (measured r) ≡ r
+unfolding measured-of
+measured-undo (Flat n t) = refl
+measured-undo (Stopped k t) = ap (λ (j : Refusal). Stopped j t) (refusal-undo k)
+
+-- ---- the contracts
+
+told-once : (r r′ : Flattened) → flattened r ≡ flattened r′ → r ≡ r′
+told-once r r′ e = sym (flattened-undo r) ∙ ap flattened-of e ∙ flattened-undo r′
+
+pub flatten-once : (κs : Lfts 2) (a : Dens κs flatten-kinds.ps) (r r′ : resT flatten-kinds.r κs .Denot) (x x′ : AtExit (endedOf 2 flatten-kinds.ps flatten-kinds.r) κs)
+    → flatten-reads.Post κs a r x → flatten-reads.Post κs a r′ x′ → (r ≡ r′) × (x .1 .1 .1 .1 .1 .0 .now ≡ x′ .1 .1 .1 .1 .1 .0 .now)
+flatten-once κs a r r′ x x′ p p′ = let e = p ∙ sym p′ in (told-once r r′ (ap (λ (o : Outcome). o .answer) e), ap (λ (o : Outcome). o .left) e)
+
+pub write-once : (κs : Lfts 2) (a : Dens κs write-kinds.ps) (r r′ : resT write-kinds.r κs .Denot) (x x′ : AtExit (endedOf 2 write-kinds.ps write-kinds.r) κs)
+    → write-reads.Post κs a r x → write-reads.Post κs a r′ x′ → (r ≡ r′) × (x .1 .1 .1 .1 .1 .0 .now ≡ x′ .1 .1 .1 .1 .1 .0 .now)
+write-once κs a r r′ x x′ p p′ = let e = p ∙ sym p′ in (told-once r r′ (ap (λ (o : Outcome). o .answer) e), ap (λ (o : Outcome). o .left) e)
+
+pub measure-once : (κs : Lfts 1) (a : Dens κs measure-kinds.ps) (r r′ : resT measure-kinds.r κs .Denot) (x x′ : AtExit (endedOf 1 measure-kinds.ps measure-kinds.r) κs)
+    → measure-reads.Post κs a r x → measure-reads.Post κs a r′ x′ → r ≡ r′
+measure-once κs a r r′ x x′ p p′ = sym (measured-undo r) ∙ ap measured-of (p ∙ sym p′) ∙ measured-undo r′
