@@ -4,6 +4,7 @@
 // its operation is unknown, a kind or a profile is neither 0 nor 1, or it or its room is over the
 // limit. Input that ends inside a record gives `?` and the end.
 mod arguments;
+mod flattening;
 mod indexes;
 mod input;
 mod line;
@@ -84,6 +85,7 @@ fn answer(asked: &[u8], lengths: &mut [u32], room: &mut [u8]) -> Line {
         5 => indexes::read_index(args),
         6 => indexes::read_entry(args, room),
         7 => indexes::write_index(args, lengths, room),
+        8 => flattening::flatten(args, room),
         9 => numbers::call_index(args),
         10 => numbers::callee(args),
         11 => indexes::well_formed(args),

@@ -1,0 +1,81 @@
+// The operation over the crate charstring, under the arguments that it takes, and the line of its
+// answer.
+use crate::arguments::Flag;
+use crate::arguments::bytes_at;
+use crate::arguments::flag_at;
+use crate::arguments::past_bytes;
+use crate::arguments::shaped;
+use crate::arguments::word_at;
+use crate::line::Line;
+use crate::room::fill;
+use reading::Flattened;
+use reading::Profile;
+use reading::Refusal;
+
+// 8: profile, budget, room, charstring, globals, locals.
+pub(crate) fn flatten(args: &[u8], room: &mut [u8]) -> Line {
+    if !shaped(args, 9, 3) {
+        return Line::unasked();
+    }
+    let Flag::Is(strict) = flag_at(args, 0) else {
+        return Line::unasked();
+    };
+    let size = word_at(args, 5) as usize;
+    if room.len() < size {
+        return Line::unasked();
+    }
+    let lent = &mut room[0..size];
+    fill(lent);
+    let globals = past_bytes(args, 9);
+    let answer = charstring::flatten(
+        bytes_at(args, 9),
+        bytes_at(args, globals),
+        bytes_at(args, past_bytes(args, globals)),
+        profile(strict),
+        word_at(args, 1),
+        lent,
+    );
+    flattened(answer, lent)
+}
+
+fn profile(strict: bool) -> Profile {
+    if strict {
+        return Profile::Strict;
+    }
+    Profile::Plain
+}
+
+// `0 N TOKENS HEX`.
+fn flattened(answer: Flattened, room: &[u8]) -> Line {
+    match answer {
+        Flattened::Accepted(n, tokens) => Line::of(0)
+            .value(n as u64)
+            .value(tokens as u64)
+            .shows(n, room),
+        Flattened::BadGlobals => Line::of(1).keeps(room),
+        Flattened::BadLocals => Line::of(2).keeps(room),
+        Flattened::Refused(refusal, tokens) => Line::of(number_of(refusal))
+            .value(tokens as u64)
+            .keeps(room),
+        Flattened::Short(n, tokens) => Line::of(13)
+            .value(n as u64)
+            .value(tokens as u64)
+            .keeps(room),
+    }
+}
+
+// Document 01's number.
+fn number_of(refusal: Refusal) -> u64 {
+    match refusal {
+        Refusal::BudgetSpent => 3,
+        Refusal::BytesLacking => 4,
+        Refusal::TooManyOperands => 5,
+        Refusal::UnknownOperator => 6,
+        Refusal::NoIndex => 7,
+        Refusal::IndexNotLast => 8,
+        Refusal::NoEntry => 9,
+        Refusal::TooDeep => 10,
+        Refusal::TooManyHints => 11,
+        Refusal::Composite => 12,
+    }
+}
