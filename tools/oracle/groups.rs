@@ -2,7 +2,7 @@
 
 use crate::random::Random;
 use crate::record::{Arguments, Record};
-use crate::{index, number};
+use crate::{flattening, index, number};
 
 pub struct Group {
     pub operations: &'static [u8],
@@ -23,7 +23,7 @@ pub struct Group {
     pub unreachable: Option<fn() -> String>,
 }
 
-pub const GROUPS: [Group; 2] = [
+pub const GROUPS: [Group; 3] = [
     Group {
         operations: &number::OPERATIONS,
         answers: &number::ANSWERS,
@@ -49,6 +49,19 @@ pub const GROUPS: [Group; 2] = [
         exhaustive: index::inputs::exhaustive,
         random: index::inputs::random,
         unreachable: Some(index::unreachable),
+    },
+    Group {
+        operations: &flattening::OPERATIONS,
+        answers: &flattening::ANSWERS,
+        line: flattening::line,
+        listed: flattening::inputs::listed,
+        sample: 500,
+        one_of_each: flattening::inputs::one_of_each,
+        beyond: flattening::inputs::beyond,
+        longest: flattening::inputs::longest,
+        exhaustive: flattening::inputs::exhaustive,
+        random: flattening::inputs::random,
+        unreachable: None,
     },
 ];
 

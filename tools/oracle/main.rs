@@ -1,11 +1,12 @@
 //! Answers of the unchanged Rust, and of document 01 where it alone speaks, for the program `cases`.
 //!
-//! A group of operations is a folder (`number`, `index`): `source` asks the Rust, `rules` states
+//! A group of operations is a folder (`number`, `index`, `flattening`): `source` asks the Rust, `rules` states
 //! document 01, `inputs` makes records, and the group's root gives a record's line. A new group is
 //! named in `groups`.
 
 mod differential;
 mod expected;
+mod flattening;
 mod groups;
 mod index;
 mod list;

@@ -1,0 +1,110 @@
+//! Random small charstrings over small random lists.
+
+use super::{list, Case, FIRST, GLOBAL, LOCAL};
+use crate::random::Random;
+use crate::record::Record;
+
+/// Operators that take what there is and go on.
+const PATHS: [u8; 13] = [4, 5, 6, 7, 8, 21, 22, 24, 25, 26, 27, 30, 31];
+const STEMS: [u8; 4] = [1, 3, 18, 23];
+
+/// A record; the budget and the room are mostly enough.
+pub fn random(_: u8, random: &mut Random) -> Record {
+    let charstring = any_string(random, 12);
+    let globals = any_list(random);
+    let locals = any_list(random);
+    let profile = random.within(0, 1) as u8;
+    let budget = match random.within(0, 5) {
+        0 => random.within(0, 30),
+        1 => random.within(0, 300),
+        _ => 2000,
+    };
+    let room = if random.once_in(4) { random.within(0, 40) } else { 1500 };
+    Case::new(&charstring, &globals, &locals).record(profile, budget as u32, room as u32)
+}
+
+/// A list of up to five entries, sometimes cut off or with another byte in it.
+fn any_list(random: &mut Random) -> Vec<u8> {
+    let count = random.within(0, 5);
+    let entries: Vec<Vec<u8>> = (0..count).map(|_| any_string(random, 8)).collect();
+    let mut bytes = list(&entries);
+    let at = random.within(0, bytes.len() as i64 - 1) as usize;
+    match random.within(0, 60) {
+        0 => bytes.truncate(at),
+        1 => bytes[at] = random.next() as u8,
+        2 => bytes.push(random.next() as u8),
+        _ => {}
+    }
+    bytes
+}
+
+fn any_string(random: &mut Random, most: i64) -> Vec<u8> {
+    let mut string = Vec::new();
+    for _ in 0..random.within(0, most) {
+        add_token(&mut string, random);
+    }
+    if random.once_in(30) {
+        string.pop();
+    }
+    string
+}
+
+/// Adds a token, or a few that belong together.
+fn add_token(string: &mut Vec<u8>, random: &mut Random) {
+    match random.within(0, 15) {
+        0..=3 => add_number(string, random),
+        4..=7 => add_call(string, random),
+        8 | 9 => add_stem(string, random),
+        10 | 11 => string.extend([random.one_of(&[19, 20]), random.next() as u8]),
+        12 => string.push(random.one_of(&PATHS)),
+        13 => string.extend([12, random.within(33, 38) as u8]),
+        14 => string.push(random.one_of(&[11, 14])),
+        _ => add_any(string, random),
+    }
+}
+
+fn add_number(string: &mut Vec<u8>, random: &mut Random) {
+    match random.within(0, 4) {
+        0 | 1 => string.push(random.within(32, 246) as u8),
+        2 => string.extend([random.within(247, 254) as u8, random.next() as u8]),
+        3 => {
+            string.push(28);
+            string.extend((random.within(-1200, 1200) as i16).to_be_bytes());
+        }
+        _ => {
+            string.push(255);
+            string.extend((random.next() as i32).to_be_bytes());
+        }
+    }
+}
+
+/// A call of one of the first entries, the index in any of its forms; at times the operator alone.
+fn add_call(string: &mut Vec<u8>, random: &mut Random) {
+    let entry = random.within(-1, 5);
+    let index = (entry - 107) as i16;
+    match random.within(0, 7) {
+        0 => string.extend([&[28], &index.to_be_bytes()[..]].concat()),
+        1 => string.extend([&[255], &index.to_be_bytes()[..], &[0, 0]].concat()),
+        2 => string.extend([&[255], &index.to_be_bytes()[..], &[0, 1]].concat()),
+        3 => {}
+        _ => string.push((i64::from(FIRST) + entry) as u8),
+    }
+    if random.once_in(12) {
+        string.extend([19, 0x80]);
+    }
+    string.push(random.one_of(&[LOCAL, GLOBAL]));
+}
+
+/// Some operands, at times as many as there may be, and a stem.
+fn add_stem(string: &mut Vec<u8>, random: &mut Random) {
+    let operands = if random.once_in(8) { random.within(40, 49) } else { random.within(0, 6) };
+    string.resize(string.len() + operands as usize, 0x8B);
+    string.push(random.one_of(&STEMS));
+}
+
+/// Up to three bytes that can be anything, operands that stay for what follows, or an end.
+fn add_any(string: &mut Vec<u8>, random: &mut Random) {
+    for _ in 0..random.within(1, 3) {
+        string.push(random.next() as u8);
+    }
+}

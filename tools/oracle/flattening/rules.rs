@@ -1,0 +1,204 @@
+//! Document 01's rules for flattening, as a reader that follows calls, keeps what it read as a row of
+//! items, and joins them at the end. Nothing here asks the Rust.
+
+use crate::index::rules as indexes;
+use crate::number::rules::{self as numbers, Operand, Place};
+
+/// A refusal's number in document 01's table.
+pub type Refusal = u32;
+
+/// What is to be flattened, and by which rules.
+pub struct Asked<'a> {
+    pub strict: bool,
+    pub budget: u32,
+    pub charstring: &'a [u8],
+    pub globals: &'a [u8],
+    pub locals: &'a [u8],
+}
+
+/// The verdict, whatever the room.
+#[derive(Clone, Debug, PartialEq, Eq)]
+pub enum Verdict {
+    Flat(Vec<u8>, u32),
+    /// A list is not well formed.
+    BadList(Refusal),
+    /// The refusal of the run, and the tokens begun.
+    Stopped(Refusal, u32),
+}
+
+const MOST_OPERANDS: usize = 48;
+
+/// An item of the flat string, and the token that it came from.
+struct Item {
+    token: u32,
+    bytes: Vec<u8>,
+}
+
+/// A subroutine list and how many entries it has.
+#[derive(Clone, Copy)]
+struct List<'a> {
+    bytes: &'a [u8],
+    count: u32,
+}
+
+/// How a string ended.
+#[derive(PartialEq)]
+enum Ending {
+    Returned,
+    Everything,
+}
+
+struct Run<'a> {
+    strict: bool,
+    budget: u32,
+    globals: List<'a>,
+    locals: List<'a>,
+    tokens: u32,
+    /// The operands, each with the token that it came from.
+    stack: Vec<(Operand, u32)>,
+    flat: Vec<Item>,
+    hints: usize,
+    mask_length: usize,
+}
+
+/// 1, 2, then the run's first refusal.
+pub fn flattened(asked: &Asked) -> Verdict {
+    let Some(globals) = list(asked.globals) else {
+        return Verdict::BadList(1);
+    };
+    let Some(locals) = list(asked.locals) else {
+        return Verdict::BadList(2);
+    };
+    let mut run = Run {
+        strict: asked.strict,
+        budget: asked.budget,
+        globals,
+        locals,
+        tokens: 0,
+        stack: Vec::new(),
+        flat: Vec::new(),
+        hints: 0,
+        mask_length: 0,
+    };
+    match run.string(asked.charstring, 1) {
+        Ok(_) => Verdict::Flat(run.flat.into_iter().flat_map(|i| i.bytes).collect(), run.tokens),
+        Err(refusal) => Verdict::Stopped(refusal, run.tokens),
+    }
+}
+
+fn list(bytes: &[u8]) -> Option<List<'_>> {
+    let count = indexes::formed(bytes).ok()?;
+    Some(List { bytes, count })
+}
+
+impl<'a> Run<'a> {
+    /// Runs a string to its end, at a depth.
+    fn string(&mut self, bytes: &'a [u8], depth: u32) -> Result<Ending, Refusal> {
+        let mut left = bytes;
+        while let Some(&first) = left.first() {
+            if self.tokens == self.budget {
+                return Err(3);
+            }
+            self.tokens += 1;
+            match first {
+                28 | 32..=255 => left = self.number(left)?,
+                12 => left = self.escaped(&left[1..])?,
+                19 | 20 => left = self.mask(first, &left[1..])?,
+                10 | 29 => {
+                    left = &left[1..];
+                    if self.call(first == 29, depth)? == Ending::Everything {
+                        return Ok(Ending::Everything);
+                    }
+                }
+                11 => return Ok(Ending::Returned),
+                14 => return self.end_char(),
+                _ => {
+                    left = &left[1..];
+                    self.operator(first)?;
+                }
+            }
+        }
+        Ok(Ending::Returned)
+    }
+
+    fn keep(&mut self, bytes: Vec<u8>) {
+        self.flat.push(Item { token: self.tokens, bytes });
+    }
+
+    /// 4, then 5. What follows the number comes back, here and below.
+    fn number(&mut self, from: &'a [u8]) -> Result<&'a [u8], Refusal> {
+        let (operand, width) = numbers::read(Place::Charstring, from)?;
+        if self.stack.len() == MOST_OPERANDS {
+            return Err(5);
+        }
+        self.stack.push((operand, self.tokens));
+        self.keep(numbers::written(Place::Charstring, operand)?);
+        Ok(&from[width..])
+    }
+
+    /// The operators of one byte that neither call, end nor have a mask.
+    fn operator(&mut self, b: u8) -> Result<(), Refusal> {
+        match b {
+            1 | 3 | 18 | 23 => self.count_hints()?,
+            4..=8 | 21 | 22 | 24..=27 | 30 | 31 => self.stack.clear(),
+            _ => return Err(6),
+        }
+        self.keep(vec![b]);
+        Ok(())
+    }
+
+    fn escaped(&mut self, from: &'a [u8]) -> Result<&'a [u8], Refusal> {
+        let (&b, after) = from.split_first().ok_or(4u32)?;
+        if !(34..=37).contains(&b) {
+            return Err(6);
+        }
+        self.stack.clear();
+        self.keep(vec![12, b]);
+        Ok(after)
+    }
+
+    fn count_hints(&mut self) -> Result<(), Refusal> {
+        let most = if self.strict { 96 } else { 65535 };
+        self.hints += self.stack.len() / 2;
+        if self.hints > most {
+            return Err(11);
+        }
+        self.stack.clear();
+        Ok(())
+    }
+
+    /// 11, then 4.
+    fn mask(&mut self, b: u8, from: &'a [u8]) -> Result<&'a [u8], Refusal> {
+        if self.mask_length == 0 {
+            self.count_hints()?;
+            self.mask_length = self.hints.div_ceil(8);
+        }
+        let (mask, after) = from.split_at_checked(self.mask_length).ok_or(4u32)?;
+        self.keep([&[b], mask].concat());
+        Ok(after)
+    }
+
+    /// 7, 9, 10, 8, and then what the entry gives.
+    fn call(&mut self, global: bool, depth: u32) -> Result<Ending, Refusal> {
+        let list = if global { self.globals } else { self.locals };
+        let deepest = if self.strict { 11 } else { 64 };
+        let (operand, token) = self.stack.pop().ok_or(7u32)?;
+        let callee = numbers::callee(operand, self.strict, list.count)?;
+        if depth == deepest {
+            return Err(10);
+        }
+        if self.flat.pop().is_none_or(|last| last.token != token) {
+            return Err(8);
+        }
+        let entry = indexes::entry(list.bytes, callee).expect("the list is well formed");
+        self.string(&list.bytes[entry.place..entry.place + entry.length], depth + 1)
+    }
+
+    fn end_char(&mut self) -> Result<Ending, Refusal> {
+        if self.stack.len() >= 4 {
+            return Err(12);
+        }
+        self.keep(vec![14]);
+        Ok(Ending::Everything)
+    }
+}
