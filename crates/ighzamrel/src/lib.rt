@@ -2,15 +2,18 @@
 // and leaves a place for a value that the answer does not give as it was.
 use index::EntryRead;
 use index::IndexRead;
+use index::IndexWritten;
 use index::read_entry;
 use index::read_index;
+use index::write_index;
 use number::Operand;
 use number::Whole;
 use number::call_index;
 ghost use mathlib.Core.Path.{_≡_};
 ghost use Rattle.number.specs.Call.{callIndex};
 ghost use Rattle.index.specs.Index.{extent, place as entryPlace};
-ghost use Rattle.ighzamrel.specs.Told.{nonzero, told, tell};
+ghost use Rattle.index.specs.Writing.{writeIndex};
+ghost use Rattle.ighzamrel.specs.Told.{nonzero, told, tell, tellWritten};
 
 // The index that an operand is at a call: 0 and the index, or 7. `kind` is 0 for an integer, else a
 // Fixed; `profile` is 0 for plain, else strict.
@@ -66,5 +69,31 @@ pub extern "C" fn ighzamrel_read_entry(
         EntryRead::Lacking => 20,
         EntryRead::BadSize => 21,
         EntryRead::Absent => 25,
+    }
+}
+
+// Writes the INDEX of elements of these lengths, joined in `data`, to the start of out: 0 and how many bytes it has;
+// 13 and how many it needs; or 22, 23 or 24.
+#[no_mangle]
+pub extern "C" fn ighzamrel_write_index(
+    lengths: &[u32],
+    data: &[u8],
+    out: &mut [u8],
+    length: &mut usize,
+) -> u32
+    ensures { λ r. ⌜ record { number = r; length = now (length .exit); left = now (out .exit) } ≡ tellWritten (writeIndex 2 (now (lengths .entry)) (now («data» .entry)) (now (out .entry))) (now (length .entry)) ⌝ }
+{
+    match write_index(lengths, data, out) {
+        IndexWritten::Bytes(n) => {
+            *length = n;
+            0
+        }
+        IndexWritten::Short(n) => {
+            *length = n;
+            13
+        }
+        IndexWritten::TooMany => 22,
+        IndexWritten::TooLong => 23,
+        IndexWritten::Mismatch => 24,
     }
 }
