@@ -129,7 +129,7 @@ pub fn beyond() -> Vec<Record> {
 /// The flat strings that are too long to store.
 pub fn longest() -> Vec<Record> {
     let mut records = plain_hints(MOST as u32);
-    // As many tokens as a record holds: 26 of its bytes are the operation, numbers, lengths and lists.
+    // As many tokens as a record holds: 26 of its bytes are no charstring.
     let tokens = MOST as u32 - 26;
     let case = Case::new(&vec![0x15; tokens as usize], NONE, NONE);
     records.push(case.record(PLAIN, u32::MAX, MOST as u32));
@@ -234,7 +234,7 @@ fn triggers() -> Vec<Vec<u8>> {
     triggers
 }
 
-/// Each trigger at the start, after other tokens, before others, and as the end of each list's entry.
+/// Each trigger at the start, after other tokens, before others, and as an entry of each list.
 fn refused() -> Vec<Record> {
     let path = [0x8C, 0x8D, 0x15];
     let mut records = Vec::new();
@@ -358,7 +358,7 @@ fn strict_hints() -> Vec<Record> {
     records
 }
 
-/// 65535 hints and 65536, at a stem and at a mask: 8 times 8 times 8 stems of 24 hints are an entry.
+/// 65535 hints and 65536, at a stem and at a mask, by entries of 1, 8, 64 and 512 full stems.
 fn plain_hints(room: u32) -> Vec<Record> {
     let stem = [&[0x8B; 48][..], &[0x01]].concat();
     let eight = |entry: u8| [entry, LOCAL].repeat(8);

@@ -1,6 +1,6 @@
-//! Flattening: operation 8. On document 01's domain of equality, which is well-formed lists, the plain
-//! profile and no answer 3, 8, 11, the rule's verdict and the Rust's are held against each other; the
-//! room is the rule's alone.
+//! Flattening: operation 8. On document 01's domain of equality, which is well-formed lists, the
+//! plain profile and no answer 3, 8 or 11, the rule and the Rust are held against each other;
+//! tokens and room are the rule's alone.
 
 pub mod inputs;
 mod rules;

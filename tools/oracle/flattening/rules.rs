@@ -1,5 +1,5 @@
-//! Document 01's rules for flattening, as a reader that follows calls, keeps what it read as a row of
-//! items, and joins them at the end. Nothing here asks the Rust.
+//! Document 01's rules for flattening, as a reader that follows calls, keeps what it read as a row
+//! of items, and joins them at the end. Nothing here asks the Rust.
 
 use crate::index::rules as indexes;
 use crate::number::rules::{self as numbers, Operand, Place};

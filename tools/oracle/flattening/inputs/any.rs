@@ -8,9 +8,18 @@ use crate::record::Record;
 const PATHS: [u8; 13] = [4, 5, 6, 7, 8, 21, 22, 24, 25, 26, 27, 30, 31];
 const STEMS: [u8; 4] = [1, 3, 18, 23];
 
-/// A record; the budget and the room are mostly enough.
+/// 48 operands and a stem: 24 hints.
+const FULL_STEM: [u8; 49] = {
+    let mut bytes = [0x8B; 49];
+    bytes[48] = 1;
+    bytes
+};
+
+/// A record; the budget and the room are mostly enough. At times it starts near the strict limit of
+/// hints.
 pub fn random(_: u8, random: &mut Random) -> Record {
-    let charstring = any_string(random, 12);
+    let stems = if random.once_in(20) { random.within(3, 4) } else { 0 };
+    let charstring = [FULL_STEM.repeat(stems as usize), any_string(random, 12)].concat();
     let globals = any_list(random);
     let locals = any_list(random);
     let profile = random.within(0, 1) as u8;
@@ -23,9 +32,9 @@ pub fn random(_: u8, random: &mut Random) -> Record {
     Case::new(&charstring, &globals, &locals).record(profile, budget as u32, room as u32)
 }
 
-/// A list of up to five entries, sometimes cut off or with another byte in it.
+/// A list of mostly three to five entries, sometimes cut off or with another byte in it.
 fn any_list(random: &mut Random) -> Vec<u8> {
-    let count = random.within(0, 5);
+    let count = if random.once_in(8) { random.within(0, 2) } else { random.within(3, 5) };
     let entries: Vec<Vec<u8>> = (0..count).map(|_| any_string(random, 8)).collect();
     let mut bytes = list(&entries);
     let at = random.within(0, bytes.len() as i64 - 1) as usize;
@@ -51,14 +60,14 @@ fn any_string(random: &mut Random, most: i64) -> Vec<u8> {
 
 /// Adds a token, or a few that belong together.
 fn add_token(string: &mut Vec<u8>, random: &mut Random) {
-    match random.within(0, 15) {
-        0..=3 => add_number(string, random),
-        4..=7 => add_call(string, random),
-        8 | 9 => add_stem(string, random),
-        10 | 11 => string.extend([random.one_of(&[19, 20]), random.next() as u8]),
-        12 => string.push(random.one_of(&PATHS)),
-        13 => string.extend([12, random.within(33, 38) as u8]),
-        14 => string.push(random.one_of(&[11, 14])),
+    match random.within(0, 39) {
+        0..=9 => add_number(string, random),
+        10..=20 => add_call(string, random),
+        21..=25 => add_stem(string, random),
+        26..=29 => string.extend([random.one_of(&[19, 20]), random.next() as u8]),
+        30..=34 => string.push(random.one_of(&PATHS)),
+        35 | 36 => string.extend([12, random.within(34, 37) as u8]),
+        37 | 38 => string.push(random.one_of(&[11, 11, 14])),
         _ => add_any(string, random),
     }
 }
@@ -80,13 +89,13 @@ fn add_number(string: &mut Vec<u8>, random: &mut Random) {
 
 /// A call of one of the first entries, the index in any of its forms; at times the operator alone.
 fn add_call(string: &mut Vec<u8>, random: &mut Random) {
-    let entry = random.within(-1, 5);
+    let entry = if random.once_in(20) { random.within(-1, 5) } else { random.within(0, 2) };
     let index = (entry - 107) as i16;
-    match random.within(0, 7) {
-        0 => string.extend([&[28], &index.to_be_bytes()[..]].concat()),
-        1 => string.extend([&[255], &index.to_be_bytes()[..], &[0, 0]].concat()),
-        2 => string.extend([&[255], &index.to_be_bytes()[..], &[0, 1]].concat()),
-        3 => {}
+    match random.within(0, 40) {
+        0..=4 => string.extend([&[28], &index.to_be_bytes()[..]].concat()),
+        5..=9 => string.extend([&[255], &index.to_be_bytes()[..], &[0, 0]].concat()),
+        10 => string.extend([&[255], &index.to_be_bytes()[..], &[0, 1]].concat()),
+        11 => {}
         _ => string.push((i64::from(FIRST) + entry) as u8),
     }
     if random.once_in(12) {
@@ -102,7 +111,7 @@ fn add_stem(string: &mut Vec<u8>, random: &mut Random) {
     string.push(random.one_of(&STEMS));
 }
 
-/// Up to three bytes that can be anything, operands that stay for what follows, or an end.
+/// Up to three bytes that can be anything.
 fn add_any(string: &mut Vec<u8>, random: &mut Random) {
     for _ in 0..random.within(1, 3) {
         string.push(random.next() as u8);
