@@ -36,9 +36,6 @@ pub fn run(program: &str, seconds: u64, seed: u64) -> Result<(), String> {
                 compare(program, batch, &[], &mut counts)?;
             }
         }
-        if let Some(unreachable) = group.unreachable {
-            println!("{}", unreachable());
-        }
     }
     let fixed: u64 = counts.values().sum();
     println!(

@@ -19,8 +19,6 @@ pub struct Group {
     pub longest: fn() -> Vec<Record>,
     pub exhaustive: fn() -> Vec<Record>,
     pub random: fn(u8, &mut Random) -> Record,
-    /// What is compared without the program, as no record can ask for it; the line that says so.
-    pub unreachable: Option<fn() -> String>,
 }
 
 pub const GROUPS: [Group; 3] = [
@@ -35,7 +33,6 @@ pub const GROUPS: [Group; 3] = [
         longest: number::inputs::longest,
         exhaustive: Vec::new,
         random: number::inputs::random,
-        unreachable: None,
     },
     Group {
         operations: &index::OPERATIONS,
@@ -48,7 +45,6 @@ pub const GROUPS: [Group; 3] = [
         longest: index::inputs::longest,
         exhaustive: index::inputs::exhaustive,
         random: index::inputs::random,
-        unreachable: Some(index::unreachable),
     },
     Group {
         operations: &flattening::OPERATIONS,
@@ -61,7 +57,6 @@ pub const GROUPS: [Group; 3] = [
         longest: flattening::inputs::longest,
         exhaustive: flattening::inputs::exhaustive,
         random: flattening::inputs::random,
-        unreachable: None,
     },
 ];
 

@@ -55,7 +55,9 @@ fn compare(last: u32) -> Result<(), String> {
     }
     let (answer, length, out) = proved(&lengths, &data, needed - 1);
     if (answer, length) != (13, needed) || out.iter().any(|&b| b != LENT) {
-        return Err(format!("one byte short, the proved writer answers {answer} with {length}, or changes bytes"));
+        return Err(format!(
+            "one byte short, the proved writer answers {answer} with {length}, or changes bytes"
+        ));
     }
     Ok(())
 }

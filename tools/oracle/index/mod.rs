@@ -96,23 +96,3 @@ fn elements(lengths: &[u32], data: &[u8]) -> Vec<Vec<u8>> {
     };
     lengths.iter().map(&mut next).collect()
 }
-
-/// How many bytes there are, and those up to the data of one element.
-fn head(bytes: Vec<u8>) -> (usize, Vec<u8>) {
-    (bytes.len(), bytes[..11].to_vec())
-}
-
-/// The one bound of the offset size that no record can reach, as its data alone are longer than a
-/// record: here the Rust and document 01's rule are held against each other, and nothing else.
-pub fn unreachable() -> String {
-    const LAST_OF_SIZE_3: u32 = 16_777_215;
-    for last in [LAST_OF_SIZE_3, LAST_OF_SIZE_3 + 1] {
-        let data = vec![0xA5; last as usize - 1];
-        let length = last - 1;
-        let rule = rules::written(&[length], &data).ok().map(head);
-        let source = source::written(vec![data]).map(head);
-        must_agree(&rule, &source, "an INDEX of one length", &length.to_be_bytes());
-    }
-    "S = 16777215 and 16777216 are longer than a record: the Rust and document 01's rule agree there"
-        .into()
-}
