@@ -1,7 +1,7 @@
 -- Demand 3 of the program: what the contracts of two calls of `flatten` say, the second on the first's output with two empty INDEXes. Stated over
 -- the contract's own reading. Assumes nothing but that the lent slices hold bytes, which their type says.
 use mathlib.Core.Path.{_≡_, sym, ap, subst, _∙_}
-use mathlib.Core.List.{List, [], _∷_, _++_}
+use mathlib.Core.List.{List}
 use Prim.Native.Nat.{ℕ, _≤_}
 use lib.ListN.{length, take, drop}
 use lib.Seq.{take-at}
@@ -11,7 +11,7 @@ use denote.Triple.Clauses.{AtExit}
 use Rattle.number.specs.Answer.{accepted}
 use Rattle.reading.specs.Rules.{rulesOf}
 use Rattle.reading.specs.CutLaws.{Bytes}
-use Rattle.reading.specs.Answers.{Flattening, Outcome, flattened, flattening}
+use Rattle.reading.specs.Answers.{Outcome, flattened, flattening}
 use Rattle.reading.specs.SameGlyph.{SameGlyph, empty, demand-three}
 use Rattle.reading.specs.declared.Flattened.the-variants.{Accepted}
 use Rattle.charstring.proofs.flattening.flatten.Kinds as kinds

@@ -1,21 +1,20 @@
 -- Each arm of the runner's loop, over all states of the reading that the code's state may stand for. Assumes nothing.
 use mathlib.Core.Path.{_≡_, refl, sym, ap, subst, _∙_}
 use mathlib.Core.Bool.{Bool, true, false, cond}
-use mathlib.Core.List.{List, [], _∷_, _++_}
-use Prim.Native.Nat.{ℕ, zero, suc, _+_, _-_, _*_, _/_, _≤_, _<_, zero-le}
+use mathlib.Core.List.{List, [], _∷_}
+use Prim.Native.Nat.{ℕ, _+_, _-_, _*_, _≤_, _<_}
 use native.Mathlib.Nat.{le-refl, mul-le-mul}
 use native.Mathlib.Omega.{arith}
-use lib.ListN.{length, getD, set, take, drop, length-set, length-drop}
+use lib.ListN.{length, getD, set, take, drop, length-drop}
 use lib.Seq.{length-take-le}
-use Rattle.number.specs.Answer.{Answer, accepted, refused}
 use Rattle.number.specs.Number.{charstringRows}
 use Rattle.number.specs.Written.{spelling}
 use Rattle.number.specs.declared.Operand.{Operand}
 use Rattle.index.specs.Index.{extent}
 use Rattle.reading.specs.Rules.{Rules}
-use Rattle.reading.specs.Lists.{Lists, Subrs, listed, countIn, subrsOf, listsOf}
+use Rattle.reading.specs.Lists.{Lists, listed, countIn, subrsOf, listsOf}
 use Rattle.reading.specs.CutLaws.{Bytes}
-use Rattle.reading.specs.Reading.{State as Now, Run, read}
+use Rattle.reading.specs.Reading.{State as Now, read}
 use Rattle.reading.specs.Flat.{operatorBytes}
 use Rattle.reading.specs.SizeLaws.{longestItem}
 use Rattle.reading.specs.ValidLaws.{Plain}
@@ -26,7 +25,7 @@ use Rattle.reading.specs.declared.Which.{Which}
 use Rattle.reading.specs.declared.Which.the-variants.{Local, Global}
 use Rattle.charstring.specs.Words.{unpackOf, puts, aimed, targetOf, Inside}
 use Rattle.charstring.specs.Run.{Ruled, Looked, Repr, Done, Sound, RunsTo, chosen, chosenCount, Setting}
-use Rattle.charstring.specs.TurnLaws.{Here, begin, small, tail-few, by-push, by-plain, by-mask, by-out, by-bad, by-return, by-end, by-no, top, body, inner, innerState, inner-repr, below-run, found, index-fits, came-back, passed-on}
+use Rattle.charstring.specs.TurnLaws.{Here, small, tail-few, by-push, by-plain, by-mask, by-out, by-bad, by-return, by-end, by-no, inner-repr, found, index-fits, came-back, passed-on}
 use Rattle.charstring.specs.declared.charstring.Limits.{Limits}
 use Rattle.charstring.specs.declared.charstring.State.{State}
 use Rattle.charstring.specs.declared.charstring.Ran.{Ran}

@@ -1,24 +1,22 @@
 -- What a token asks for, and when it is refused: the laws that `look` and `ask` go by. Assumes nothing.
 use mathlib.Core.Path.{_≡_, refl, sym, ap, subst, _∙_}
-use mathlib.Core.Bool.{Bool, true, false, cond}
+use mathlib.Core.Bool.{Bool}
 use mathlib.Core.List.{List, [], _∷_}
-use Prim.Native.Nat.{ℕ, zero, suc, _+_, _-_, _/_, _≤_, _<_}
+use Prim.Native.Nat.{ℕ, _+_, _-_, _/_, _≤_, _<_}
 use native.Mathlib.Omega.{arith}
-use lib.Dec.{eqb, leb, ltb}
 use lib.ListN.{length, drop, length-drop}
 use borrow.Author.Tests.{le-ltb, lt-ltb, le-leb, lt-leb, eq-eqb, ne-eqb}
 use Rattle.number.specs.declared.Operand.{Operand}
 use Rattle.reading.specs.Rules.{Rules, type2}
 use Rattle.reading.specs.Lists.{Lists, Subrs, listed}
-use Rattle.reading.specs.Tokens.{number, operator, Cut, token, lacking, cut}
+use Rattle.reading.specs.Tokens.{number, operator, token, lacking, cut}
 use Rattle.reading.specs.Items.{Left, counted, atMask}
-use Rattle.reading.specs.Reading.{State as Now, Step, refuse, onNumber, onStem, onMask, onEnd, onCall, onOperator, onCut, step}
-use Rattle.reading.specs.Answers.{numberOf}
+use Rattle.reading.specs.Reading.{State as Now, refuse, onNumber, onStem, onMask, onEnd, onCall, onOperator, onCut, step}
 use Rattle.reading.specs.declared.Operator.{Operator}
 use Rattle.reading.specs.declared.Which.{Which}
 use Rattle.reading.specs.declared.Kind.{Kind}
-use Rattle.reading.specs.declared.Kind.the-variants.{Stem, Clear, Mask, Call, Return, End, Unknown}
-use Rattle.charstring.specs.Run.{Ruled, Counts, Begun, AtOperator, Hinted, clears, counts, Fixed, first, later, Declines, Asked, Refuses, Looked}
+use Rattle.reading.specs.declared.Kind.the-variants.{Stem, Mask, Call, End, Unknown}
+use Rattle.charstring.specs.Run.{Ruled, Counts, AtOperator, Hinted, Fixed, Declines, Asked, Refuses, Looked}
 use Rattle.charstring.specs.declared.look.Request.{Request}
 use Rattle.charstring.specs.declared.look.Request.the-variants.{Push, Plain, Mask as Masking, Call as Calling, Return as Returning, End as Finish, Out, Bad}
 

@@ -1,11 +1,9 @@
 -- How a state of the code stands for a state of the reading, and what `look` and `run` ensure.
 use mathlib.Core.Path.{_≡_}
-use mathlib.Core.Bool.{Bool, true, false}
+use mathlib.Core.Bool.{Bool}
 use mathlib.Core.List.{List, [], _∷_}
-use mathlib.Core.Logic.{_⊎_}
-use Prim.Native.Nat.{ℕ, zero, suc, _+_, _-_, _*_, _/_, _≤_, _<_}
+use Prim.Native.Nat.{ℕ, suc, _+_, _-_, _/_, _≤_, _<_}
 use lib.ListN.{length, drop}
-use Rattle.number.specs.declared.Operand.{Operand}
 use Rattle.reading.specs.Rules.{Rules, type2}
 use Rattle.index.specs.Index.{extent}
 use Rattle.reading.specs.Lists.{Lists, countIn, listsOf}
@@ -18,7 +16,7 @@ use Rattle.reading.specs.Answers.{numberOf}
 use Rattle.reading.specs.declared.Operator.{Operator}
 use Rattle.reading.specs.declared.Which.{Which}
 use Rattle.reading.specs.declared.Which.the-variants.{Local, Global}
-use Rattle.reading.specs.declared.Kind.the-variants.{Stem, Clear, Mask, Call, Return, End, Unknown}
+use Rattle.reading.specs.declared.Kind.the-variants.{Stem, Clear, Mask, Call, Return, End}
 use Rattle.charstring.specs.Words.{stackOf}
 use Rattle.charstring.specs.WordsLaws.{Written, Beyond}
 use Rattle.charstring.specs.declared.charstring.Limits.{Limits}

@@ -3,13 +3,13 @@ use mathlib.Core.Path.{_≡_, refl, sym, ap, subst, _∙_}
 use mathlib.Core.Bool.{Bool, true, false, cond}
 use mathlib.Core.List.{List, [], _∷_, _++_}
 use Prim.Native.Nat.{ℕ, zero, suc, _+_, _-_, _*_, _/_, _≤_, _<_, zero-le}
-use native.Mathlib.Nat.{le-refl, add-sub-cancel-left, mul-le-mul}
+use native.Mathlib.Nat.{le-refl, mul-le-mul}
 use native.Mathlib.Numerals.{add-one}
 use native.Mathlib.Omega.{arith}
 use lib.Dec.{eqb, ltb}
 use lib.ListN.{length, getD, set, take, drop, length-append, length-drop, length-set}
 use lib.Seq.{drop-drop, length-take-le}
-use borrow.Author.Tests.{eq-eqb, ne-eqb, lt-ltb, le-ltb, eqb-false, ltb-true}
+use borrow.Author.Tests.{eq-eqb, ne-eqb, lt-ltb, eqb-false, ltb-true}
 use Rattle.number.specs.Number.{charstringRows}
 use Rattle.number.specs.Written.{spelling}
 use Rattle.number.specs.declared.Operand.{Operand}
@@ -17,22 +17,22 @@ use Rattle.reading.specs.Rules.{Rules, type2}
 use Rattle.number.specs.Answer.{Answer, accepted, refused}
 use Rattle.number.specs.Call.{callee}
 use Rattle.index.specs.Index.{Place, extent, place, bytesBy, part}
-use Rattle.reading.specs.Lists.{Lists, Subrs, Entry, present, absent, listed, countIn, entryBy, subrsOf, listsOf}
-use Rattle.reading.specs.Tokens.{number, operator, token, cut}
+use Rattle.reading.specs.Lists.{Lists, Subrs, listed, countIn, entryBy, subrsOf}
+use Rattle.reading.specs.Tokens.{number, token, cut}
 use Rattle.reading.specs.CutLaws.{Bytes, bytes-drop}
 use Rattle.reading.specs.Items.{Item, operand, plainly, masked, Left, pushed, popped, cleared, counted, atMask, leaves, leftBy}
-use Rattle.reading.specs.Reading.{Entering, Shown, item, call, return, struck, Ending as How, back, ended, stopped, Run, State as Now, Step, halt, go, enter, refuse, shows, endsInOperand, onEntry, onIndex, onCall, onOperator, onCut, step, resume, after, tokensOf, read}
+use Rattle.reading.specs.Reading.{Entering, item, call, return, struck, Ending as How, back, ended, stopped, Run, State as Now, Step, halt, go, enter, refuse, shows, endsInOperand, onEntry, onIndex, onCall, onOperator, onCut, step, resume, after, tokensOf, read}
 use Rattle.reading.specs.Flat.{operatorBytes, spelled, flat}
 use Rattle.reading.specs.StepLaws.{Goes, pushes, stems, clears, masks, enters, returns, ends, step-goes}
 use Rattle.reading.specs.RunLaws.{closed, Led}
-use Rattle.reading.specs.ValidLaws.{Good, Ended, Ends, Plain, good-goes, index-is-last}
+use Rattle.reading.specs.ValidLaws.{Good, Ends, Plain, good-goes, index-is-last}
 use Rattle.reading.specs.StraightLaws.{run-step}
 use Rattle.reading.specs.SizeLaws.{longestItem, valid-most, struck-fewer}
 use Rattle.reading.specs.Answers.{numberOf}
 use Rattle.reading.specs.declared.Refusal.{Refusal}
 use Rattle.reading.specs.declared.Operator.{Operator}
 use Rattle.reading.specs.declared.Which.{Which}
-use Rattle.reading.specs.declared.Kind.the-variants.{Stem, Clear, Mask, Call, Return, End, Unknown}
+use Rattle.reading.specs.declared.Kind.the-variants.{Mask, Call, Return, End}
 use Rattle.charstring.specs.Words.{unpackOf, stackOf, puts, enterBy, aimBy, aimed, targetOf}
 use Rattle.charstring.specs.WordsLaws.{Written, Beyond, puts-append, puts-beyond, puts-written, written-cut, beyond-refl, beyond-trans, stack-length, stack-pushed, stack-last}
 use Rattle.charstring.specs.Run.{Ruled, Counts, Begun, AtOperator, Hinted, clears as Clearing, counts as Counting, Fixed, first, later, Refuses, tailOf, Repr, howOf, Done}

@@ -1,8 +1,8 @@
 -- What `measure` and `flatten` answer, from what `run` ensures. Assumes nothing.
 use mathlib.Core.Path.{_≡_, refl, sym, ap, subst, _∙_}
-use mathlib.Core.Bool.{Bool, true, false, cond}
+use mathlib.Core.Bool.{cond}
 use mathlib.Core.List.{List, [], _∷_, _++_}
-use Prim.Native.Nat.{ℕ, zero, suc, _+_, _-_, _≤_, _<_, zero-le}
+use Prim.Native.Nat.{ℕ, _-_, _≤_, _<_, zero-le}
 use native.Mathlib.Nat.{lt-of-le-of-lt}
 use native.Mathlib.Omega.{arith}
 use lib.Dec.{leb, lit≤}
@@ -10,25 +10,23 @@ use lib.ListN.{length, drop}
 use borrow.Author.Tests.{le-leb, lt-leb}
 use Rattle.number.specs.Answer.{Answer, accepted, refused}
 use Rattle.index.specs.Index.{extent}
-use Rattle.index.specs.Formed.{Formation, yes, unread, emptied, bad, formation}
 use Rattle.reading.specs.Rules.{Rules, rulesOf}
 use Rattle.reading.specs.Lists.{countIn, listsOf}
 use Rattle.reading.specs.Items.{leftBy}
-use Rattle.reading.specs.Reading.{struck, State as Now, start, Ending as How, back, ended, stopped, Run, tokensBy, tokens, read, reading}
-use Rattle.reading.specs.BudgetLaws.{Accepted, tokens-budget}
-use Rattle.reading.specs.ValidLaws.{Good, none}
+use Rattle.reading.specs.Reading.{struck, start, Ending as How, back, ended, stopped, Run, tokensBy, tokens, reading}
+use Rattle.reading.specs.BudgetLaws.{Accepted}
+use Rattle.reading.specs.ValidLaws.{none}
 use Rattle.reading.specs.Flat.{flat}
-use Rattle.reading.specs.Answers.{Flattening, Outcome, flatOf, verdictBy, verdict, placed, outcome, listGate, flattening, numberOf}
+use Rattle.reading.specs.Answers.{Flattening, Outcome, flatOf, verdictBy, verdict, placed, outcome, numberOf}
 use Rattle.reading.specs.declared.Profile.{Profile}
 use Rattle.reading.specs.declared.Profile.the-variants.{Plain, Strict}
 use Rattle.reading.specs.declared.Refusal.{Refusal}
 use Rattle.charstring.specs.Words.{stackOf}
-use Rattle.charstring.specs.WordsLaws.{Written, Beyond, written-none, written-whole}
+use Rattle.charstring.specs.WordsLaws.{written-none, written-whole}
 use Rattle.charstring.specs.Run.{Ruled, tailOf, Repr, howOf, Done, Sound, Setting, RunsTo}
-use Rattle.charstring.specs.Verdicts.{Verdict, flat-of, stopped-by, verdictOf, measureOf, Holds, filled}
+use Rattle.charstring.specs.Verdicts.{flat-of, stopped-by, verdictOf, measureOf, Holds, filled}
 use Rattle.charstring.specs.declared.charstring.Limits.{Limits}
 use Rattle.charstring.specs.declared.charstring.State.{State}
-use Rattle.charstring.specs.declared.charstring.Ending.{Ending}
 use Rattle.charstring.specs.declared.charstring.Ending.the-variants.{Back, Ended, Refused}
 use Rattle.charstring.specs.declared.charstring.Ran.{Ran}
 

@@ -1,18 +1,16 @@
 -- What the code holds, in the reading's words.
-use mathlib.Core.Path.{_≡_}
-use mathlib.Core.Bool.{Bool, true, false, cond}
+use mathlib.Core.Bool.{Bool, cond}
 use mathlib.Core.List.{List, [], _∷_}
-use Prim.Native.Nat.{ℕ, zero, suc, _+_, _-_, _*_, _%_, _^_, _≤_, _<_}
+use Prim.Native.Nat.{ℕ, zero, suc, _+_, _-_, _%_, _^_, _≤_, _<_}
 use lib.Dec.{leb, ltb, eqb}
-use lib.ListN.{length, getD, set, take, drop}
+use lib.ListN.{getD, set, drop}
 use Rattle.number.specs.Answer.{Answer, accepted, refused}
 use Rattle.number.specs.Signed.{signed}
 use Rattle.number.specs.Call.{callee}
 use Rattle.number.specs.declared.Operand.{Operand}
 use Rattle.index.specs.Index.{Place, place}
-use Rattle.reading.specs.Tokens.{Token as Seen, number, operator, Cut, token, lacking, cut}
+use Rattle.reading.specs.Tokens.{number, operator, Cut, token, lacking, cut}
 use Rattle.reading.specs.Answers.{numberOf}
-use Rattle.reading.specs.declared.Refusal.{Refusal}
 use Rattle.charstring.specs.declared.token.Token.{Token}
 use Rattle.charstring.specs.declared.token.Token.the-variants.{Number, Operator, Lacking}
 use Rattle.charstring.specs.declared.subroutines.Target.{Target}

@@ -1,12 +1,12 @@
 -- Signed numbers of 32 bits: what `down`, `minus` and `split` cite. Assumes nothing.
-use mathlib.Core.Path.{_≡_, refl, sym, ap, subst, _∙_}
+use mathlib.Core.Path.{_≡_, refl, sym, _∙_}
 use Prim.Native.Nat.{ℕ, zero, suc, _+_, _-_, _<_, _≤_, _^_, zero-le}
-use native.Mathlib.Nat.{lt-trans, le-suc, lt-of-le-of-lt, lt-irrefl}
+use native.Mathlib.Nat.{lt-trans, lt-of-le-of-lt, lt-irrefl}
 use native.Mathlib.Omega.{arith}
 use lib.IntN.{ℤ, pos, negsuc, negℤ, predℤ, subℕ, natAbs, _-ℤ_, _+ℤ_, +ℤ-idl, +ℤ-one, -ℤ-one, negℤ-negℤ}
 use lib.Signed.{mag, ltZ, nonNeg}
 use lib.Dec.{T, lit<}
-use mathlib.Core.Bool.{Bool, true, false, true≢false}
+use mathlib.Core.Bool.{true, false, true≢false}
 use borrow.Author.Tests.{lt-ltb, le-ltb, ltb-true}
 use mir.Syntax.{w32}
 use mir.Val.{Fits, SFits, toZ, ofZ}

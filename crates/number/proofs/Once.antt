@@ -1,7 +1,7 @@
 -- Each public contract fixes its result: any two results that it allows of one call, and what they leave in lent bytes, are one. Stated over the
 -- contract's own generated reading. Assumes nothing.
 use mathlib.Core.Path.{_≡_, refl, sym, ap, _∙_}
-use mathlib.Core.Bool.{Bool, true, false, cond}
+use mathlib.Core.Bool.{cond}
 use mathlib.Core.List.{List, [], _∷_}
 use Prim.Native.Nat.{ℕ}
 use lib.Dec.{eqb}

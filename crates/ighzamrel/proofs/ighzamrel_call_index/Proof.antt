@@ -7,31 +7,23 @@ use native.Mathlib.Omega.{arith}
 use borrow.Author.Needs.{needs}
 use Rattle.ighzamrel.proofs.ighzamrel_call_index.Statement.{statement}
 use Rattle.ighzamrel.proofs.ighzamrel_call_index.Tie as tie
-use Rattle.ighzamrel.proofs.ighzamrel_call_index.Reads as reads
-use Rattle.ighzamrel.proofs.ighzamrel_call_index.Lts as lts
-use Rattle.number.proofs.call_index.Reads as call-index-reads
 
 -- where the index is answered
 asked : (c : tie.After-call-index) → wholeOf (c .call-index .result) ≡ callIndex (nonzero (c .before .args .profile)) (record { fixed = nonzero (c .before .args .kind); value = c .before .args .value })
 asked c = c .call-index .ensures ∙ ap (λ (z : ℤ). callIndex (nonzero (c .before .args .profile)) (record { fixed = nonzero (c .before .args .kind); value = z })) (moved (c .before .args .value) (omega arith) refl)
 
--- src/lib.rt:20:24
 call-index-requires : tie.Need-call-index-requires
 call-index-requires c κs = search needs
 
--- src/lib.rt:20:19
 enum-known-z : tie.Need-enum-known-z
 enum-known-z c = search needs
 
--- src/lib.rt:21:9
 enum-told : tie.Need-enum-told
 enum-told c = search needs
 
--- src/lib.rt:21:9
 returns : tie.Need-returns
 returns c = tell-refused _ _ 7 _ (ap wholeOf (sym (c .enum-told .given .1)) ∙ asked (c .before .before))
 
--- src/lib.rt:12:1
 returns-2 : tie.Need-returns-2
 returns-2 c = ap (told 0) (moved (c .before .z .given .0 .0) (omega arith) refl) ∙ tell-accepted _ _ _ (ap wholeOf (sym (c .before .z .given .1)) ∙ asked (c .before .before .before))
 

@@ -4,42 +4,31 @@ use Rattle.number.specs.Signed.{halfOf}
 use Rattle.number.proofs.Border.{more-fits, flip-fits, flipped-casts, flipped-half, kept-casts, kept-half, moved, up-is, down-is, bits-up, bits-down}
 use Rattle.charstring.proofs.argstack.bits_of.Statement.{statement}
 use Rattle.charstring.proofs.argstack.bits_of.Tie as tie
-use Rattle.charstring.proofs.argstack.bits_of.Reads as reads
-use Rattle.charstring.proofs.argstack.bits_of.Lts as lts
 
--- src/argstack.rt:35:33
 add-result : tie.Need-add-result
 add-result c = more-fits (c .before .args .z) (c .before .fits .z) (c .if1 .taken)
 
--- src/argstack.rt:35:31
 sub-result : tie.Need-sub-result
 sub-result c = flip-fits (c .before .args .z) (c .before .fits .z) (c .if1 .taken)
 
--- src/argstack.rt:35:30
 cast-result : tie.Need-cast-result
 cast-result c = flipped-casts (c .before .args .z) (c .before .fits .z) (c .if1 .taken)
 
--- src/argstack.rt:35:29
 cast-result-2 : tie.Need-cast-result-2
 cast-result-2 c = let h = flipped-casts (c .before .args .z) (c .before .fits .z) (c .if1 .taken) .1 .fits in record { fits = omega arith }
 
--- src/argstack.rt:35:16
 sub-result-2 : tie.Need-sub-result-2
 sub-result-2 c = let h = flipped-casts (c .before .args .z) (c .before .fits .z) (c .if1 .taken) .1 .fits in omega arith
 
--- src/argstack.rt:35:9
 returns : tie.Need-returns
 returns c = (bits-down _ _ (down-is (c .before .args .z) _ ((c .before .fits .z) .sfits) (ap halfOf (sym (moved (c .before .args .z) ((c .before .fits .z) .sfits) refl))) (sym (flipped-half (c .before .args .z) (c .before .fits .z) (c .if1 .taken)))), omega arith)
 
--- src/argstack.rt:37:6
 cast-result-3 : tie.Need-cast-result-3
 cast-result-3 c = kept-casts (c .before .args .z) (c .before .fits .z) (c .if1 .left)
 
--- src/argstack.rt:37:5
 cast-result-4 : tie.Need-cast-result-4
 cast-result-4 c = let h = kept-casts (c .before .args .z) (c .before .fits .z) (c .if1 .left) .1 .fits in record { fits = omega arith }
 
--- src/argstack.rt:30:1
 returns-2 : tie.Need-returns-2
 returns-2 c = (bits-up _ _ (up-is (c .before .args .z) _ ((c .before .fits .z) .sfits) (ap halfOf (sym (moved (c .before .args .z) ((c .before .fits .z) .sfits) refl))) (sym (kept-half (c .before .args .z) (c .before .fits .z) (c .if1 .left)))), kept-casts (c .before .args .z) (c .before .fits .z) (c .if1 .left) .1 .fits)
 

@@ -3,23 +3,16 @@ use Rattle.charstring.proofs.Packed.{passed, packed-fixed, packed-integ
 use borrow.Author.Needs.{needs}
 use Rattle.charstring.proofs.argstack.pack.Statement.{statement}
 use Rattle.charstring.proofs.argstack.pack.Tie as tie
-use Rattle.charstring.proofs.argstack.pack.Reads as reads
-use Rattle.charstring.proofs.argstack.pack.Lts as lts
-use Rattle.charstring.proofs.argstack.bits_of.Reads as bits-of-reads
 
--- src/argstack.rt:12:9
 bits-of-requires : tie.Need-bits-of-requires
 bits-of-requires c κs = search needs
 
--- src/argstack.rt:14:16
 add-result : tie.Need-add-result
 add-result c = search needs
 
--- src/argstack.rt:14:9
 returns : tie.Need-returns
 returns c = packed-fixed _ _ (omega arith) (passed (c .before .before .before .args .o .value) (omega arith) (c .before .bits-of .ensures .0)) (c .before .bits-of .ensures .1) (search needs)
 
--- src/argstack.rt:9:1
 returns-2 : tie.Need-returns-2
 returns-2 c = packed-integer _ _ (omega arith) (passed (c .before .before .before .args .o .value) (omega arith) (c .before .bits-of .ensures .0)) (c .before .bits-of .ensures .1) (search needs)
 

@@ -3,15 +3,10 @@ use Rattle.charstring.proofs.Packed.{unpacked}
 use borrow.Author.Needs.{needs}
 use Rattle.charstring.proofs.argstack.unpack.Statement.{statement}
 use Rattle.charstring.proofs.argstack.unpack.Tie as tie
-use Rattle.charstring.proofs.argstack.unpack.Reads as reads
-use Rattle.charstring.proofs.argstack.unpack.Lts as lts
-use Rattle.charstring.proofs.argstack.value_of.Reads as value-of-reads
 
--- src/argstack.rt:25:16
 value-of-requires : tie.Need-value-of-requires
 value-of-requires c κs = search needs
 
--- src/argstack.rt:20:1
 returns : tie.Need-returns
 returns c = unpacked _ _ (moved (c .value-of .result) (c .value-of .ok) (c .value-of .ensures))
 

@@ -3,16 +3,16 @@ use Rattle.number.specs.declared.Operand.{Operand}
 use denote.Ref.{now}
 use Rattle.number.specs.Number.{charstringRows}
 use Rattle.number.specs.Written.{spelling}
-use Rattle.charstring.specs.Words.{unpackOf, aimed, targetOf, Inside}
-use Rattle.charstring.specs.declared.subroutines.Target.the-variants.{Enter, No}
+use Rattle.charstring.specs.Words.{unpackOf, aimed, targetOf}
+use Rattle.charstring.specs.declared.subroutines.Target.the-variants.{Enter}
 use Rattle.reading.specs.Lists.{listsOf}
 use Rattle.charstring.specs.declared.look.Request.the-variants.{Push, Plain, Mask, Call, Return, End, Out as Empty, Bad}
-use mathlib.Core.Path.{_≡_, refl, sym, ap, subst, _∙_}
-use Prim.Native.Nat.{_+_, _-_, _*_, _≤_}
+use mathlib.Core.Path.{_≡_, refl, ap, subst, _∙_}
+use Prim.Native.Nat.{_+_, _-_, _≤_}
 use native.Mathlib.Omega.{arith}
-use lib.ListN.{length, getD, set, take, drop, length-set}
+use lib.ListN.{length, getD, take, drop, length-set}
 use borrow.Author.Needs.{needs}
-use Rattle.charstring.specs.Run.{Looked, Sound, RunsTo, Setting, chosen, chosenCount}
+use Rattle.charstring.specs.Run.{Looked, RunsTo, chosen, chosenCount}
 use Rattle.charstring.specs.TurnLaws.{begin}
 use Rattle.charstring.specs.ArmLaws.{Stands, Turn, Head, headed, asks, safe, arm-push, arm-plain, arm-mask, arm-out, arm-bad, arm-return, arm-end, arm-no, inside-sound, arm-back, arm-passed, index-there, operator-two, part-long, aims-at, inside-at, setting-now, ended-goes, refused-goes}
 use Prim.Native.Nat.{ℕ, _<_}
@@ -103,329 +103,249 @@ there t c = index-there (c .before .before .before .before .before .before .befo
 sized : (t : ℕ) (c : run-lts.After-size-of (callees t) (run-at t) run.Post run-Inv-loop run-μ-loop) → c .size-of .result ≡ length (spelling charstringRows (unpackOf (getD (c .before .before .before .before .before .before .before .before .before .before .before .before .before .loop .stack) (c .before .before .before .before .before .before .before .before .before .before .before .before .before .loop .count - 1) 0)))
 sized t c = c .size-of .ensures ∙ ap (λ (o : Operand). length (spelling charstringRows o)) (c .before .before .before .before .before .before .before .unpack .ensures)
 
--- src/charstring.rt:75:5
 run-loop-holds : (t : ℕ) → Of run-lts.Need-loop-holds t
 run-loop-holds t c = (refl, refl, λ rules r t₀ p. begin rules (listsOf 2 (c .before .before .before .before .before .args .globals .now) (c .before .before .before .before .before .args .locals .now)) (c .before .before .before .before .before .args .cs .now) (c .before .before .before .before .before .args .by .budget) (c .before .before .before .before .before .args .levels) (c .before .before .before .before .before .args .by .stored) t₀ (c .before .before .before .before .before .args .out .now) (c .before .before .before .before .before .args .stack .now) (c .before .before .before .before .before .args .out .now) (c .before .before .before .before .before .args .s) 0 (c .before .before .before .before .before .pre .1 .0 .stored) t₀ p)
 
--- src/charstring.rt:76:13
 run-look-requires : (t : ℕ) → Of run-lts.Need-look-requires t
 run-look-requires t c κs = let f = safe (c .before .before .before .before .before .before .args .cs .now) (c .before .before .before .before .before .before .args .globals .now) (c .before .before .before .before .before .before .args .locals .now) (c .before .before .before .before .before .before .args .by) (c .before .before .before .before .before .before .args .levels) (c .before .before .before .before .before .before .args .s) (c .before .before .before .before .before .before .args .stack .now) (c .before .before .before .before .before .before .args .out .now) (c .loop .stack) (c .loop .out) (record { count = c .loop .count; tail = c .loop .tail; hints = c .loop .hints; mask = c .loop .mask; tokens = c .loop .tokens; length = c .loop .end }) (c .loop .i) (turn-at t c) (c .before .before .before .before .before .before .pre .1 .1) in (f .hinted, omega arith)
 
--- src/charstring.rt:78:27
 run-enum-known-looked : (t : ℕ) → Of run-lts.Need-enum-known-looked t
 run-enum-known-looked t c = search needs
 
--- src/charstring.rt:79:17
 run-put-operand-requires : (t : ℕ) → Of run-lts.Need-put-operand-requires t
 run-put-operand-requires t c κs = let d = head t (c .before .before .before .before) in let f = asks (c .before .before .before .before .before .before .before .before .before .before .before .args .cs .now) (c .before .before .before .before .before .before .before .before .before .before .before .args .globals .now) (c .before .before .before .before .before .before .before .before .before .before .before .args .locals .now) (c .before .before .before .before .before .before .before .before .before .before .before .args .by) (c .before .before .before .before .before .before .before .before .before .before .before .args .levels) (c .before .before .before .before .before .before .before .before .before .before .before .args .s) (c .before .before .before .before .before .before .before .before .before .before .before .args .stack .now) (c .before .before .before .before .before .before .before .before .before .before .before .args .out .now) (c .before .before .before .before .before .loop .stack) (c .before .before .before .before .before .loop .out) (record { count = c .before .before .before .before .before .loop .count; tail = c .before .before .before .before .before .loop .tail; hints = c .before .before .before .before .before .loop .hints; mask = c .before .before .before .before .before .loop .mask; tokens = c .before .before .before .before .before .loop .tokens; length = c .before .before .before .before .before .loop .end }) (c .before .before .before .before .before .loop .i) (c .before .before .before .before .look .result) d (Push _ _) (c .before .before .looked .given .1) in omega (arith, d .safe-now, f .0)
 
--- src/charstring.rt:80:32
 run-pack-requires : (t : ℕ) → Of run-lts.Need-pack-requires t
 run-pack-requires t c κs = tt
 
--- src/charstring.rt:80:17
 run-mul-stack : (t : ℕ) → Of run-lts.Need-mul-stack t
 run-mul-stack t c = let d = head t (c .before .before .before .before .before .before .before .before) in let f = asks (c .before .before .before .before .before .before .before .before .before .before .before .before .before .before .before .args .cs .now) (c .before .before .before .before .before .before .before .before .before .before .before .before .before .before .before .args .globals .now) (c .before .before .before .before .before .before .before .before .before .before .before .before .before .before .before .args .locals .now) (c .before .before .before .before .before .before .before .before .before .before .before .before .before .before .before .args .by) (c .before .before .before .before .before .before .before .before .before .before .before .before .before .before .before .args .levels) (c .before .before .before .before .before .before .before .before .before .before .before .before .before .before .before .args .s) (c .before .before .before .before .before .before .before .before .before .before .before .before .before .before .before .args .stack .now) (c .before .before .before .before .before .before .before .before .before .before .before .before .before .before .before .args .out .now) (c .before .before .before .before .before .before .before .before .before .loop .stack) (c .before .before .before .before .before .before .before .before .before .loop .out) (record { count = c .before .before .before .before .before .before .before .before .before .loop .count; tail = c .before .before .before .before .before .before .before .before .before .loop .tail; hints = c .before .before .before .before .before .before .before .before .before .loop .hints; mask = c .before .before .before .before .before .before .before .before .before .loop .mask; tokens = c .before .before .before .before .before .before .before .before .before .loop .tokens; length = c .before .before .before .before .before .before .before .before .before .loop .end }) (c .before .before .before .before .before .before .before .before .before .loop .i) (c .before .before .before .before .before .before .before .before .look .result) d (Push _ _) (c .before .before .before .before .before .before .looked .given .1) in omega (arith, d .safe-now, f .2)
 
--- src/charstring.rt:80:17
 run-slice-write-stack : (t : ℕ) → Of run-lts.Need-slice-write-stack t
 run-slice-write-stack t c = let d = head t (c .before .before .before .before .before .before .before .before) in let f = asks (c .before .before .before .before .before .before .before .before .before .before .before .before .before .before .before .args .cs .now) (c .before .before .before .before .before .before .before .before .before .before .before .before .before .before .before .args .globals .now) (c .before .before .before .before .before .before .before .before .before .before .before .before .before .before .before .args .locals .now) (c .before .before .before .before .before .before .before .before .before .before .before .before .before .before .before .args .by) (c .before .before .before .before .before .before .before .before .before .before .before .before .before .before .before .args .levels) (c .before .before .before .before .before .before .before .before .before .before .before .before .before .before .before .args .s) (c .before .before .before .before .before .before .before .before .before .before .before .before .before .before .before .args .stack .now) (c .before .before .before .before .before .before .before .before .before .before .before .before .before .before .before .args .out .now) (c .before .before .before .before .before .before .before .before .before .loop .stack) (c .before .before .before .before .before .before .before .before .before .loop .out) (record { count = c .before .before .before .before .before .before .before .before .before .loop .count; tail = c .before .before .before .before .before .before .before .before .before .loop .tail; hints = c .before .before .before .before .before .before .before .before .before .loop .hints; mask = c .before .before .before .before .before .before .before .before .before .loop .mask; tokens = c .before .before .before .before .before .before .before .before .before .loop .tokens; length = c .before .before .before .before .before .before .before .before .before .loop .end }) (c .before .before .before .before .before .before .before .before .before .loop .i) (c .before .before .before .before .before .before .before .before .look .result) d (Push _ _) (c .before .before .before .before .before .before .looked .given .1) in omega (arith, d .safe-now, f .2)
 
--- src/charstring.rt:81:17
 run-add-count : (t : ℕ) → Of run-lts.Need-add-count t
 run-add-count t c = let d = head t (c .before .before .before .before .before .before .before .before) in let f = asks (c .before .before .before .before .before .before .before .before .before .before .before .before .before .before .before .args .cs .now) (c .before .before .before .before .before .before .before .before .before .before .before .before .before .before .before .args .globals .now) (c .before .before .before .before .before .before .before .before .before .before .before .before .before .before .before .args .locals .now) (c .before .before .before .before .before .before .before .before .before .before .before .before .before .before .before .args .by) (c .before .before .before .before .before .before .before .before .before .before .before .before .before .before .before .args .levels) (c .before .before .before .before .before .before .before .before .before .before .before .before .before .before .before .args .s) (c .before .before .before .before .before .before .before .before .before .before .before .before .before .before .before .args .stack .now) (c .before .before .before .before .before .before .before .before .before .before .before .before .before .before .before .args .out .now) (c .before .before .before .before .before .before .before .before .before .loop .stack) (c .before .before .before .before .before .before .before .before .before .loop .out) (record { count = c .before .before .before .before .before .before .before .before .before .loop .count; tail = c .before .before .before .before .before .before .before .before .before .loop .tail; hints = c .before .before .before .before .before .before .before .before .before .loop .hints; mask = c .before .before .before .before .before .before .before .before .before .loop .mask; tokens = c .before .before .before .before .before .before .before .before .before .loop .tokens; length = c .before .before .before .before .before .before .before .before .before .loop .end }) (c .before .before .before .before .before .before .before .before .before .loop .i) (c .before .before .before .before .before .before .before .before .look .result) d (Push _ _) (c .before .before .before .before .before .before .looked .given .1) in omega (arith, d .safe-now, f .2)
 
--- src/charstring.rt:82:17
 run-add-tail : (t : ℕ) → Of run-lts.Need-add-tail t
 run-add-tail t c = let d = head t (c .before .before .before .before .before .before .before .before) in let f = asks (c .before .before .before .before .before .before .before .before .before .before .before .before .before .before .before .args .cs .now) (c .before .before .before .before .before .before .before .before .before .before .before .before .before .before .before .args .globals .now) (c .before .before .before .before .before .before .before .before .before .before .before .before .before .before .before .args .locals .now) (c .before .before .before .before .before .before .before .before .before .before .before .before .before .before .before .args .by) (c .before .before .before .before .before .before .before .before .before .before .before .before .before .before .before .args .levels) (c .before .before .before .before .before .before .before .before .before .before .before .before .before .before .before .args .s) (c .before .before .before .before .before .before .before .before .before .before .before .before .before .before .before .args .stack .now) (c .before .before .before .before .before .before .before .before .before .before .before .before .before .before .before .args .out .now) (c .before .before .before .before .before .before .before .before .before .loop .stack) (c .before .before .before .before .before .before .before .before .before .loop .out) (record { count = c .before .before .before .before .before .before .before .before .before .loop .count; tail = c .before .before .before .before .before .before .before .before .before .loop .tail; hints = c .before .before .before .before .before .before .before .before .before .loop .hints; mask = c .before .before .before .before .before .before .before .before .before .loop .mask; tokens = c .before .before .before .before .before .before .before .before .before .loop .tokens; length = c .before .before .before .before .before .before .before .before .before .loop .end }) (c .before .before .before .before .before .before .before .before .before .loop .i) (c .before .before .before .before .before .before .before .before .look .result) d (Push _ _) (c .before .before .before .before .before .before .looked .given .1) in omega (arith, d .safe-now, f .2)
 
--- src/charstring.rt:83:17
 run-add-tokens : (t : ℕ) → Of run-lts.Need-add-tokens t
 run-add-tokens t c = let d = head t (c .before .before .before .before .before .before .before .before) in let f = asks (c .before .before .before .before .before .before .before .before .before .before .before .before .before .before .before .args .cs .now) (c .before .before .before .before .before .before .before .before .before .before .before .before .before .before .before .args .globals .now) (c .before .before .before .before .before .before .before .before .before .before .before .before .before .before .before .args .locals .now) (c .before .before .before .before .before .before .before .before .before .before .before .before .before .before .before .args .by) (c .before .before .before .before .before .before .before .before .before .before .before .before .before .before .before .args .levels) (c .before .before .before .before .before .before .before .before .before .before .before .before .before .before .before .args .s) (c .before .before .before .before .before .before .before .before .before .before .before .before .before .before .before .args .stack .now) (c .before .before .before .before .before .before .before .before .before .before .before .before .before .before .before .args .out .now) (c .before .before .before .before .before .before .before .before .before .loop .stack) (c .before .before .before .before .before .before .before .before .before .loop .out) (record { count = c .before .before .before .before .before .before .before .before .before .loop .count; tail = c .before .before .before .before .before .before .before .before .before .loop .tail; hints = c .before .before .before .before .before .before .before .before .before .loop .hints; mask = c .before .before .before .before .before .before .before .before .before .loop .mask; tokens = c .before .before .before .before .before .before .before .before .before .loop .tokens; length = c .before .before .before .before .before .before .before .before .before .loop .end }) (c .before .before .before .before .before .before .before .before .before .loop .i) (c .before .before .before .before .before .before .before .before .look .result) d (Push _ _) (c .before .before .before .before .before .before .looked .given .1) in omega (arith, f .0)
 
--- src/charstring.rt:75:5
 run-loop-less : (t : ℕ) → Of run-lts.Need-loop-less t
 run-loop-less t c = let d = head t (c .before .before .before .before .before .before .before .before) in let f = asks (c .before .before .before .before .before .before .before .before .before .before .before .before .before .before .before .args .cs .now) (c .before .before .before .before .before .before .before .before .before .before .before .before .before .before .before .args .globals .now) (c .before .before .before .before .before .before .before .before .before .before .before .before .before .before .before .args .locals .now) (c .before .before .before .before .before .before .before .before .before .before .before .before .before .before .before .args .by) (c .before .before .before .before .before .before .before .before .before .before .before .before .before .before .before .args .levels) (c .before .before .before .before .before .before .before .before .before .before .before .before .before .before .before .args .s) (c .before .before .before .before .before .before .before .before .before .before .before .before .before .before .before .args .stack .now) (c .before .before .before .before .before .before .before .before .before .before .before .before .before .before .before .args .out .now) (c .before .before .before .before .before .before .before .before .before .loop .stack) (c .before .before .before .before .before .before .before .before .before .loop .out) (record { count = c .before .before .before .before .before .before .before .before .before .loop .count; tail = c .before .before .before .before .before .before .before .before .before .loop .tail; hints = c .before .before .before .before .before .before .before .before .before .loop .hints; mask = c .before .before .before .before .before .before .before .before .before .loop .mask; tokens = c .before .before .before .before .before .before .before .before .before .loop .tokens; length = c .before .before .before .before .before .before .before .before .before .loop .end }) (c .before .before .before .before .before .before .before .before .before .loop .i) (c .before .before .before .before .before .before .before .before .look .result) d (Push _ _) (c .before .before .before .before .before .before .looked .given .1) in omega (arith, f .0)
 
--- src/charstring.rt:75:5
 run-loop-again : (t : ℕ) → Of run-lts.Need-loop-again t
 run-loop-again t c = let d = head t (c .before .before .before .before .before .before .before .before) in let f = asks (c .before .before .before .before .before .before .before .before .before .before .before .before .before .before .before .args .cs .now) (c .before .before .before .before .before .before .before .before .before .before .before .before .before .before .before .args .globals .now) (c .before .before .before .before .before .before .before .before .before .before .before .before .before .before .before .args .locals .now) (c .before .before .before .before .before .before .before .before .before .before .before .before .before .before .before .args .by) (c .before .before .before .before .before .before .before .before .before .before .before .before .before .before .before .args .levels) (c .before .before .before .before .before .before .before .before .before .before .before .before .before .before .before .args .s) (c .before .before .before .before .before .before .before .before .before .before .before .before .before .before .before .args .stack .now) (c .before .before .before .before .before .before .before .before .before .before .before .before .before .before .before .args .out .now) (c .before .before .before .before .before .before .before .before .before .loop .stack) (c .before .before .before .before .before .before .before .before .before .loop .out) (record { count = c .before .before .before .before .before .before .before .before .before .loop .count; tail = c .before .before .before .before .before .before .before .before .before .loop .tail; hints = c .before .before .before .before .before .before .before .before .before .loop .hints; mask = c .before .before .before .before .before .before .before .before .before .loop .mask; tokens = c .before .before .before .before .before .before .before .before .before .loop .tokens; length = c .before .before .before .before .before .before .before .before .before .loop .end }) (c .before .before .before .before .before .before .before .before .before .loop .i) (c .before .before .before .before .before .before .before .before .look .result) d (Push _ _) (c .before .before .before .before .before .before .looked .given .1) in (length-set {A = ℕ} (c .before .before .before .before .before .before .before .before .before .loop .stack) (c .before .before .before .before .before .before .before .before .before .loop .count) (c .pack .result) ∙ c .before .before .before .before .before .before .before .before .before .loop .inv .0, c .before .before .before .put-operand .kept .0 ∙ c .before .before .before .before .before .before .before .before .before .loop .inv .1, arm-push (c .before .before .before .before .before .before .before .before .before .before .before .before .before .before .before .args .cs .now) (c .before .before .before .before .before .before .before .before .before .before .before .before .before .before .before .args .globals .now) (c .before .before .before .before .before .before .before .before .before .before .before .before .before .before .before .args .locals .now) (c .before .before .before .before .before .before .before .before .before .before .before .before .before .before .before .args .by) (c .before .before .before .before .before .before .before .before .before .before .before .before .before .before .before .args .levels) (c .before .before .before .before .before .before .before .before .before .before .before .before .before .before .before .args .s) (c .before .before .before .before .before .before .before .before .before .before .before .before .before .before .before .args .stack .now) (c .before .before .before .before .before .before .before .before .before .before .before .before .before .before .before .args .out .now) (c .before .before .before .before .before .before .before .before .before .loop .stack) (c .before .before .before .before .before .before .before .before .before .loop .out) (record { count = c .before .before .before .before .before .before .before .before .before .loop .count; tail = c .before .before .before .before .before .before .before .before .before .loop .tail; hints = c .before .before .before .before .before .before .before .before .before .loop .hints; mask = c .before .before .before .before .before .before .before .before .before .loop .mask; tokens = c .before .before .before .before .before .before .before .before .before .loop .tokens; length = c .before .before .before .before .before .before .before .before .before .loop .end }) (c .before .before .before .before .before .before .before .before .before .loop .i) (d .turn) (c .before .before .before .before .before .before .looked .given .0 .0) (c .before .before .before .before .before .before .looked .given .0 .1 .0) (c .pack .result) _ _ f (c .pack .ensures) (c .before .before .before .put-operand .ensures .1) (c .before .before .before .put-operand .ensures .0))
 
--- src/charstring.rt:86:28
 run-enum-known-looked-2 : (t : ℕ) → Of run-lts.Need-enum-known-looked-2 t
 run-enum-known-looked-2 t c = search needs
 
--- src/charstring.rt:87:17
 run-put-operator-requires : (t : ℕ) → Of run-lts.Need-put-operator-requires t
 run-put-operator-requires t c κs = let d = head t (c .before .before .before .before) in let f = asks (c .before .before .before .before .before .before .before .before .before .before .before .args .cs .now) (c .before .before .before .before .before .before .before .before .before .before .before .args .globals .now) (c .before .before .before .before .before .before .before .before .before .before .before .args .locals .now) (c .before .before .before .before .before .before .before .before .before .before .before .args .by) (c .before .before .before .before .before .before .before .before .before .before .before .args .levels) (c .before .before .before .before .before .before .before .before .before .before .before .args .s) (c .before .before .before .before .before .before .before .before .before .before .before .args .stack .now) (c .before .before .before .before .before .before .before .before .before .before .before .args .out .now) (c .before .before .before .before .before .loop .stack) (c .before .before .before .before .before .loop .out) (record { count = c .before .before .before .before .before .loop .count; tail = c .before .before .before .before .before .loop .tail; hints = c .before .before .before .before .before .loop .hints; mask = c .before .before .before .before .before .loop .mask; tokens = c .before .before .before .before .before .loop .tokens; length = c .before .before .before .before .before .loop .end }) (c .before .before .before .before .before .loop .i) (c .before .before .before .before .look .result) d (Plain _ _ _) (c .before .before .looked2 .given .1) in omega (arith, d .safe-now, f .0 .begun)
 
--- src/charstring.rt:91:17
 run-add-tokens-2 : (t : ℕ) → Of run-lts.Need-add-tokens-2 t
 run-add-tokens-2 t c = let d = head t (c .before .before .before .before .before .before .before) in let f = asks (c .before .before .before .before .before .before .before .before .before .before .before .before .before .before .args .cs .now) (c .before .before .before .before .before .before .before .before .before .before .before .before .before .before .args .globals .now) (c .before .before .before .before .before .before .before .before .before .before .before .before .before .before .args .locals .now) (c .before .before .before .before .before .before .before .before .before .before .before .before .before .before .args .by) (c .before .before .before .before .before .before .before .before .before .before .before .before .before .before .args .levels) (c .before .before .before .before .before .before .before .before .before .before .before .before .before .before .args .s) (c .before .before .before .before .before .before .before .before .before .before .before .before .before .before .args .stack .now) (c .before .before .before .before .before .before .before .before .before .before .before .before .before .before .args .out .now) (c .before .before .before .before .before .before .before .before .loop .stack) (c .before .before .before .before .before .before .before .before .loop .out) (record { count = c .before .before .before .before .before .before .before .before .loop .count; tail = c .before .before .before .before .before .before .before .before .loop .tail; hints = c .before .before .before .before .before .before .before .before .loop .hints; mask = c .before .before .before .before .before .before .before .before .loop .mask; tokens = c .before .before .before .before .before .before .before .before .loop .tokens; length = c .before .before .before .before .before .before .before .before .loop .end }) (c .before .before .before .before .before .before .before .before .loop .i) (c .before .before .before .before .before .before .before .look .result) d (Plain _ _ _) (c .before .before .before .before .before .looked2 .given .1) in omega (arith, f .0 .begun)
 
--- src/charstring.rt:75:5
 run-loop-less-2 : (t : ℕ) → Of run-lts.Need-loop-less-2 t
 run-loop-less-2 t c = let d = head t (c .before .before .before .before .before .before .before) in let f = asks (c .before .before .before .before .before .before .before .before .before .before .before .before .before .before .args .cs .now) (c .before .before .before .before .before .before .before .before .before .before .before .before .before .before .args .globals .now) (c .before .before .before .before .before .before .before .before .before .before .before .before .before .before .args .locals .now) (c .before .before .before .before .before .before .before .before .before .before .before .before .before .before .args .by) (c .before .before .before .before .before .before .before .before .before .before .before .before .before .before .args .levels) (c .before .before .before .before .before .before .before .before .before .before .before .before .before .before .args .s) (c .before .before .before .before .before .before .before .before .before .before .before .before .before .before .args .stack .now) (c .before .before .before .before .before .before .before .before .before .before .before .before .before .before .args .out .now) (c .before .before .before .before .before .before .before .before .loop .stack) (c .before .before .before .before .before .before .before .before .loop .out) (record { count = c .before .before .before .before .before .before .before .before .loop .count; tail = c .before .before .before .before .before .before .before .before .loop .tail; hints = c .before .before .before .before .before .before .before .before .loop .hints; mask = c .before .before .before .before .before .before .before .before .loop .mask; tokens = c .before .before .before .before .before .before .before .before .loop .tokens; length = c .before .before .before .before .before .before .before .before .loop .end }) (c .before .before .before .before .before .before .before .before .loop .i) (c .before .before .before .before .before .before .before .look .result) d (Plain _ _ _) (c .before .before .before .before .before .looked2 .given .1) in omega (arith, f .0 .begun)
 
--- src/charstring.rt:75:5
 run-loop-again-2 : (t : ℕ) → Of run-lts.Need-loop-again-2 t
 run-loop-again-2 t c = let d = head t (c .before .before .before .before .before .before .before) in let f = asks (c .before .before .before .before .before .before .before .before .before .before .before .before .before .before .args .cs .now) (c .before .before .before .before .before .before .before .before .before .before .before .before .before .before .args .globals .now) (c .before .before .before .before .before .before .before .before .before .before .before .before .before .before .args .locals .now) (c .before .before .before .before .before .before .before .before .before .before .before .before .before .before .args .by) (c .before .before .before .before .before .before .before .before .before .before .before .before .before .before .args .levels) (c .before .before .before .before .before .before .before .before .before .before .before .before .before .before .args .s) (c .before .before .before .before .before .before .before .before .before .before .before .before .before .before .args .stack .now) (c .before .before .before .before .before .before .before .before .before .before .before .before .before .before .args .out .now) (c .before .before .before .before .before .before .before .before .loop .stack) (c .before .before .before .before .before .before .before .before .loop .out) (record { count = c .before .before .before .before .before .before .before .before .loop .count; tail = c .before .before .before .before .before .before .before .before .loop .tail; hints = c .before .before .before .before .before .before .before .before .loop .hints; mask = c .before .before .before .before .before .before .before .before .loop .mask; tokens = c .before .before .before .before .before .before .before .before .loop .tokens; length = c .before .before .before .before .before .before .before .before .loop .end }) (c .before .before .before .before .before .before .before .before .loop .i) (c .before .before .before .before .before .before .before .look .result) d (Plain _ _ _) (c .before .before .before .before .before .looked2 .given .1) in (c .before .before .before .before .before .before .before .before .loop .inv .0, c .before .before .put-operator .kept .0 ∙ c .before .before .before .before .before .before .before .before .loop .inv .1, arm-plain (c .before .before .before .before .before .before .before .before .before .before .before .before .before .before .args .cs .now) (c .before .before .before .before .before .before .before .before .before .before .before .before .before .before .args .globals .now) (c .before .before .before .before .before .before .before .before .before .before .before .before .before .before .args .locals .now) (c .before .before .before .before .before .before .before .before .before .before .before .before .before .before .args .by) (c .before .before .before .before .before .before .before .before .before .before .before .before .before .before .args .levels) (c .before .before .before .before .before .before .before .before .before .before .before .before .before .before .args .s) (c .before .before .before .before .before .before .before .before .before .before .before .before .before .before .args .stack .now) (c .before .before .before .before .before .before .before .before .before .before .before .before .before .before .args .out .now) (c .before .before .before .before .before .before .before .before .loop .stack) (c .before .before .before .before .before .before .before .before .loop .out) (record { count = c .before .before .before .before .before .before .before .before .loop .count; tail = c .before .before .before .before .before .before .before .before .loop .tail; hints = c .before .before .before .before .before .before .before .before .loop .hints; mask = c .before .before .before .before .before .before .before .before .loop .mask; tokens = c .before .before .before .before .before .before .before .before .loop .tokens; length = c .before .before .before .before .before .before .before .before .loop .end }) (c .before .before .before .before .before .before .before .before .loop .i) (d .turn) (c .before .before .before .before .before .looked2 .given .0 .0) (c .before .before .before .before .before .looked2 .given .0 .1 .0) (c .before .before .before .before .before .looked2 .given .0 .1 .1 .0) _ _ f (c .before .before .put-operator .ensures .1) (c .before .before .put-operator .ensures .0))
 
--- src/charstring.rt:94:27
 run-enum-known-looked-3 : (t : ℕ) → Of run-lts.Need-enum-known-looked-3 t
 run-enum-known-looked-3 t c = search needs
 
--- src/charstring.rt:95:21
 run-put-operator-requires-2 : (t : ℕ) → Of run-lts.Need-put-operator-requires-2 t
 run-put-operator-requires-2 t c κs = let d = head t (c .before .before .before .before) in let f = asks (c .before .before .before .before .before .before .before .before .before .before .before .args .cs .now) (c .before .before .before .before .before .before .before .before .before .before .before .args .globals .now) (c .before .before .before .before .before .before .before .before .before .before .before .args .locals .now) (c .before .before .before .before .before .before .before .before .before .before .before .args .by) (c .before .before .before .before .before .before .before .before .before .before .before .args .levels) (c .before .before .before .before .before .before .before .before .before .before .before .args .s) (c .before .before .before .before .before .before .before .before .before .before .before .args .stack .now) (c .before .before .before .before .before .before .before .before .before .before .before .args .out .now) (c .before .before .before .before .before .loop .stack) (c .before .before .before .before .before .loop .out) (record { count = c .before .before .before .before .before .loop .count; tail = c .before .before .before .before .before .loop .tail; hints = c .before .before .before .before .before .loop .hints; mask = c .before .before .before .before .before .loop .mask; tokens = c .before .before .before .before .before .loop .tokens; length = c .before .before .before .before .before .loop .end }) (c .before .before .before .before .before .loop .i) (c .before .before .before .before .look .result) d (Mask _ _ _ _ _) (c .before .before .looked3 .given .1) in omega (arith, d .safe-now, f .0 .begun)
 
--- src/charstring.rt:96:56
 run-sub-put-mask : (t : ℕ) → Of run-lts.Need-sub-put-mask t
 run-sub-put-mask t c = let d = head t (c .before .before .before .before .before .before .before .before) in let f = asks (c .before .before .before .before .before .before .before .before .before .before .before .before .before .before .before .args .cs .now) (c .before .before .before .before .before .before .before .before .before .before .before .before .before .before .before .args .globals .now) (c .before .before .before .before .before .before .before .before .before .before .before .before .before .before .before .args .locals .now) (c .before .before .before .before .before .before .before .before .before .before .before .before .before .before .before .args .by) (c .before .before .before .before .before .before .before .before .before .before .before .before .before .before .before .args .levels) (c .before .before .before .before .before .before .before .before .before .before .before .before .before .before .before .args .s) (c .before .before .before .before .before .before .before .before .before .before .before .before .before .before .before .args .stack .now) (c .before .before .before .before .before .before .before .before .before .before .before .before .before .before .before .args .out .now) (c .before .before .before .before .before .before .before .before .before .loop .stack) (c .before .before .before .before .before .before .before .before .before .loop .out) (record { count = c .before .before .before .before .before .before .before .before .before .loop .count; tail = c .before .before .before .before .before .before .before .before .before .loop .tail; hints = c .before .before .before .before .before .before .before .before .before .loop .hints; mask = c .before .before .before .before .before .before .before .before .before .loop .mask; tokens = c .before .before .before .before .before .before .before .before .before .loop .tokens; length = c .before .before .before .before .before .before .before .before .before .loop .end }) (c .before .before .before .before .before .before .before .before .before .loop .i) (c .before .before .before .before .before .before .before .before .look .result) d (Mask _ _ _ _ _) (c .before .before .before .before .before .before .looked3 .given .1) in omega (arith, f .3)
 
--- src/charstring.rt:96:56
 run-part-put-mask-start : (t : ℕ) → Of run-lts.Need-part-put-mask-start t
 run-part-put-mask-start t c = let d = head t (c .before .before .before .before .before .before .before .before) in let f = asks (c .before .before .before .before .before .before .before .before .before .before .before .before .before .before .before .args .cs .now) (c .before .before .before .before .before .before .before .before .before .before .before .before .before .before .before .args .globals .now) (c .before .before .before .before .before .before .before .before .before .before .before .before .before .before .before .args .locals .now) (c .before .before .before .before .before .before .before .before .before .before .before .before .before .before .before .args .by) (c .before .before .before .before .before .before .before .before .before .before .before .before .before .before .before .args .levels) (c .before .before .before .before .before .before .before .before .before .before .before .before .before .before .before .args .s) (c .before .before .before .before .before .before .before .before .before .before .before .before .before .before .before .args .stack .now) (c .before .before .before .before .before .before .before .before .before .before .before .before .before .before .before .args .out .now) (c .before .before .before .before .before .before .before .before .before .loop .stack) (c .before .before .before .before .before .before .before .before .before .loop .out) (record { count = c .before .before .before .before .before .before .before .before .before .loop .count; tail = c .before .before .before .before .before .before .before .before .before .loop .tail; hints = c .before .before .before .before .before .before .before .before .before .loop .hints; mask = c .before .before .before .before .before .before .before .before .before .loop .mask; tokens = c .before .before .before .before .before .before .before .before .before .loop .tokens; length = c .before .before .before .before .before .before .before .before .before .loop .end }) (c .before .before .before .before .before .before .before .before .before .loop .i) (c .before .before .before .before .before .before .before .before .look .result) d (Mask _ _ _ _ _) (c .before .before .before .before .before .before .looked3 .given .1) in omega (arith, f .3, f .4)
 
--- src/charstring.rt:96:56
 run-part-put-mask-end : (t : ℕ) → Of run-lts.Need-part-put-mask-end t
 run-part-put-mask-end t c = let d = head t (c .before .before .before .before .before .before .before .before) in let f = asks (c .before .before .before .before .before .before .before .before .before .before .before .before .before .before .before .args .cs .now) (c .before .before .before .before .before .before .before .before .before .before .before .before .before .before .before .args .globals .now) (c .before .before .before .before .before .before .before .before .before .before .before .before .before .before .before .args .locals .now) (c .before .before .before .before .before .before .before .before .before .before .before .before .before .before .before .args .by) (c .before .before .before .before .before .before .before .before .before .before .before .before .before .before .before .args .levels) (c .before .before .before .before .before .before .before .before .before .before .before .before .before .before .before .args .s) (c .before .before .before .before .before .before .before .before .before .before .before .before .before .before .before .args .stack .now) (c .before .before .before .before .before .before .before .before .before .before .before .before .before .before .before .args .out .now) (c .before .before .before .before .before .before .before .before .before .loop .stack) (c .before .before .before .before .before .before .before .before .before .loop .out) (record { count = c .before .before .before .before .before .before .before .before .before .loop .count; tail = c .before .before .before .before .before .before .before .before .before .loop .tail; hints = c .before .before .before .before .before .before .before .before .before .loop .hints; mask = c .before .before .before .before .before .before .before .before .before .loop .mask; tokens = c .before .before .before .before .before .before .before .before .before .loop .tokens; length = c .before .before .before .before .before .before .before .before .before .loop .end }) (c .before .before .before .before .before .before .before .before .before .loop .i) (c .before .before .before .before .before .before .before .before .look .result) d (Mask _ _ _ _ _) (c .before .before .before .before .before .before .looked3 .given .1) in omega (arith, f .3, f .4)
 
--- src/charstring.rt:96:17
 run-put-mask-requires : (t : ℕ) → Of run-lts.Need-put-mask-requires t
 run-put-mask-requires t c κs = let d = head t (c .before .before .before .before .before .before .before .before .before) in let f = asks (c .before .before .before .before .before .before .before .before .before .before .before .before .before .before .before .before .args .cs .now) (c .before .before .before .before .before .before .before .before .before .before .before .before .before .before .before .before .args .globals .now) (c .before .before .before .before .before .before .before .before .before .before .before .before .before .before .before .before .args .locals .now) (c .before .before .before .before .before .before .before .before .before .before .before .before .before .before .before .before .args .by) (c .before .before .before .before .before .before .before .before .before .before .before .before .before .before .before .before .args .levels) (c .before .before .before .before .before .before .before .before .before .before .before .before .before .before .before .before .args .s) (c .before .before .before .before .before .before .before .before .before .before .before .before .before .before .before .before .args .stack .now) (c .before .before .before .before .before .before .before .before .before .before .before .before .before .before .before .before .args .out .now) (c .before .before .before .before .before .before .before .before .before .before .loop .stack) (c .before .before .before .before .before .before .before .before .before .before .loop .out) (record { count = c .before .before .before .before .before .before .before .before .before .before .loop .count; tail = c .before .before .before .before .before .before .before .before .before .before .loop .tail; hints = c .before .before .before .before .before .before .before .before .before .before .loop .hints; mask = c .before .before .before .before .before .before .before .before .before .before .loop .mask; tokens = c .before .before .before .before .before .before .before .before .before .before .loop .tokens; length = c .before .before .before .before .before .before .before .before .before .before .loop .end }) (c .before .before .before .before .before .before .before .before .before .before .loop .i) (c .before .before .before .before .before .before .before .before .before .look .result) d (Mask _ _ _ _ _) (c .before .before .before .before .before .before .before .looked3 .given .1) in let k = c .before .before .before .before .put-operator2 .kept .0 in let e = c .before .before .before .before .put-operator2 .ensures .0 in let w = operator-two (c .before .before .before .before .before .before .before .looked3 .given .0 .0) in (let z = d .safe-now .stored in omega arith, omega (arith, d .safe-now .small, f .0 .begun .within, c .before .before .before .before .before .before .before .before .before .before .before .before .before .before .before .before .good))
 
--- src/charstring.rt:100:24
 run-sub-mask : (t : ℕ) → Of run-lts.Need-sub-mask t
 run-sub-mask t c = let d = head t (c .before .before .before .before .before .before .before .before .before .before .before .before) in let f = asks (c .before .before .before .before .before .before .before .before .before .before .before .before .before .before .before .before .before .before .before .args .cs .now) (c .before .before .before .before .before .before .before .before .before .before .before .before .before .before .before .before .before .before .before .args .globals .now) (c .before .before .before .before .before .before .before .before .before .before .before .before .before .before .before .before .before .before .before .args .locals .now) (c .before .before .before .before .before .before .before .before .before .before .before .before .before .before .before .before .before .before .before .args .by) (c .before .before .before .before .before .before .before .before .before .before .before .before .before .before .before .before .before .before .before .args .levels) (c .before .before .before .before .before .before .before .before .before .before .before .before .before .before .before .before .before .before .before .args .s) (c .before .before .before .before .before .before .before .before .before .before .before .before .before .before .before .before .before .before .before .args .stack .now) (c .before .before .before .before .before .before .before .before .before .before .before .before .before .before .before .before .before .before .before .args .out .now) (c .before .before .before .before .before .before .before .before .before .before .before .before .before .loop .stack) (c .before .before .before .before .before .before .before .before .before .before .before .before .before .loop .out) (record { count = c .before .before .before .before .before .before .before .before .before .before .before .before .before .loop .count; tail = c .before .before .before .before .before .before .before .before .before .before .before .before .before .loop .tail; hints = c .before .before .before .before .before .before .before .before .before .before .before .before .before .loop .hints; mask = c .before .before .before .before .before .before .before .before .before .before .before .before .before .loop .mask; tokens = c .before .before .before .before .before .before .before .before .before .before .before .before .before .loop .tokens; length = c .before .before .before .before .before .before .before .before .before .before .before .before .before .loop .end }) (c .before .before .before .before .before .before .before .before .before .before .before .before .before .loop .i) (c .before .before .before .before .before .before .before .before .before .before .before .before .look .result) d (Mask _ _ _ _ _) (c .before .before .before .before .before .before .before .before .before .before .looked3 .given .1) in omega (arith, f .3)
 
--- src/charstring.rt:101:17
 run-add-tokens-3 : (t : ℕ) → Of run-lts.Need-add-tokens-3 t
 run-add-tokens-3 t c = let d = head t (c .before .before .before .before .before .before .before .before .before .before .before .before) in let f = asks (c .before .before .before .before .before .before .before .before .before .before .before .before .before .before .before .before .before .before .before .args .cs .now) (c .before .before .before .before .before .before .before .before .before .before .before .before .before .before .before .before .before .before .before .args .globals .now) (c .before .before .before .before .before .before .before .before .before .before .before .before .before .before .before .before .before .before .before .args .locals .now) (c .before .before .before .before .before .before .before .before .before .before .before .before .before .before .before .before .before .before .before .args .by) (c .before .before .before .before .before .before .before .before .before .before .before .before .before .before .before .before .before .before .before .args .levels) (c .before .before .before .before .before .before .before .before .before .before .before .before .before .before .before .before .before .before .before .args .s) (c .before .before .before .before .before .before .before .before .before .before .before .before .before .before .before .before .before .before .before .args .stack .now) (c .before .before .before .before .before .before .before .before .before .before .before .before .before .before .before .before .before .before .before .args .out .now) (c .before .before .before .before .before .before .before .before .before .before .before .before .before .loop .stack) (c .before .before .before .before .before .before .before .before .before .before .before .before .before .loop .out) (record { count = c .before .before .before .before .before .before .before .before .before .before .before .before .before .loop .count; tail = c .before .before .before .before .before .before .before .before .before .before .before .before .before .loop .tail; hints = c .before .before .before .before .before .before .before .before .before .before .before .before .before .loop .hints; mask = c .before .before .before .before .before .before .before .before .before .before .before .before .before .loop .mask; tokens = c .before .before .before .before .before .before .before .before .before .before .before .before .before .loop .tokens; length = c .before .before .before .before .before .before .before .before .before .before .before .before .before .loop .end }) (c .before .before .before .before .before .before .before .before .before .before .before .before .before .loop .i) (c .before .before .before .before .before .before .before .before .before .before .before .before .look .result) d (Mask _ _ _ _ _) (c .before .before .before .before .before .before .before .before .before .before .looked3 .given .1) in omega (arith, f .0 .begun .within, c .before .before .before .before .before .before .before .before .before .before .before .before .before .before .before .before .before .before .before .good)
 
--- src/charstring.rt:75:5
 run-loop-less-3 : (t : ℕ) → Of run-lts.Need-loop-less-3 t
 run-loop-less-3 t c = let d = head t (c .before .before .before .before .before .before .before .before .before .before .before .before) in let f = asks (c .before .before .before .before .before .before .before .before .before .before .before .before .before .before .before .before .before .before .before .args .cs .now) (c .before .before .before .before .before .before .before .before .before .before .before .before .before .before .before .before .before .before .before .args .globals .now) (c .before .before .before .before .before .before .before .before .before .before .before .before .before .before .before .before .before .before .before .args .locals .now) (c .before .before .before .before .before .before .before .before .before .before .before .before .before .before .before .before .before .before .before .args .by) (c .before .before .before .before .before .before .before .before .before .before .before .before .before .before .before .before .before .before .before .args .levels) (c .before .before .before .before .before .before .before .before .before .before .before .before .before .before .before .before .before .before .before .args .s) (c .before .before .before .before .before .before .before .before .before .before .before .before .before .before .before .before .before .before .before .args .stack .now) (c .before .before .before .before .before .before .before .before .before .before .before .before .before .before .before .before .before .before .before .args .out .now) (c .before .before .before .before .before .before .before .before .before .before .before .before .before .loop .stack) (c .before .before .before .before .before .before .before .before .before .before .before .before .before .loop .out) (record { count = c .before .before .before .before .before .before .before .before .before .before .before .before .before .loop .count; tail = c .before .before .before .before .before .before .before .before .before .before .before .before .before .loop .tail; hints = c .before .before .before .before .before .before .before .before .before .before .before .before .before .loop .hints; mask = c .before .before .before .before .before .before .before .before .before .before .before .before .before .loop .mask; tokens = c .before .before .before .before .before .before .before .before .before .before .before .before .before .loop .tokens; length = c .before .before .before .before .before .before .before .before .before .before .before .before .before .loop .end }) (c .before .before .before .before .before .before .before .before .before .before .before .before .before .loop .i) (c .before .before .before .before .before .before .before .before .before .before .before .before .look .result) d (Mask _ _ _ _ _) (c .before .before .before .before .before .before .before .before .before .before .looked3 .given .1) in omega (arith, f .0 .begun, f .3, f .4)
 
--- src/charstring.rt:75:5
 run-loop-again-3 : (t : ℕ) → Of run-lts.Need-loop-again-3 t
 run-loop-again-3 t c = let d = head t (c .before .before .before .before .before .before .before .before .before .before .before .before) in let f = asks (c .before .before .before .before .before .before .before .before .before .before .before .before .before .before .before .before .before .before .before .args .cs .now) (c .before .before .before .before .before .before .before .before .before .before .before .before .before .before .before .before .before .before .before .args .globals .now) (c .before .before .before .before .before .before .before .before .before .before .before .before .before .before .before .before .before .before .before .args .locals .now) (c .before .before .before .before .before .before .before .before .before .before .before .before .before .before .before .before .before .before .before .args .by) (c .before .before .before .before .before .before .before .before .before .before .before .before .before .before .before .before .before .before .before .args .levels) (c .before .before .before .before .before .before .before .before .before .before .before .before .before .before .before .before .before .before .before .args .s) (c .before .before .before .before .before .before .before .before .before .before .before .before .before .before .before .before .before .before .before .args .stack .now) (c .before .before .before .before .before .before .before .before .before .before .before .before .before .before .before .before .before .before .before .args .out .now) (c .before .before .before .before .before .before .before .before .before .before .before .before .before .loop .stack) (c .before .before .before .before .before .before .before .before .before .before .before .before .before .loop .out) (record { count = c .before .before .before .before .before .before .before .before .before .before .before .before .before .loop .count; tail = c .before .before .before .before .before .before .before .before .before .before .before .before .before .loop .tail; hints = c .before .before .before .before .before .before .before .before .before .before .before .before .before .loop .hints; mask = c .before .before .before .before .before .before .before .before .before .before .before .before .before .loop .mask; tokens = c .before .before .before .before .before .before .before .before .before .before .before .before .before .loop .tokens; length = c .before .before .before .before .before .before .before .before .before .before .before .before .before .loop .end }) (c .before .before .before .before .before .before .before .before .before .before .before .before .before .loop .i) (c .before .before .before .before .before .before .before .before .before .before .before .before .look .result) d (Mask _ _ _ _ _) (c .before .before .before .before .before .before .before .before .before .before .looked3 .given .1) in (c .before .before .before .before .before .before .before .before .before .before .before .before .before .loop .inv .0, c .before .before .put-mask .kept .0 ∙ c .before .before .before .before .before .before .before .put-operator2 .kept .0 ∙ c .before .before .before .before .before .before .before .before .before .before .before .before .before .loop .inv .1, arm-mask (c .before .before .before .before .before .before .before .before .before .before .before .before .before .before .before .before .before .before .before .args .cs .now) (c .before .before .before .before .before .before .before .before .before .before .before .before .before .before .before .before .before .before .before .args .globals .now) (c .before .before .before .before .before .before .before .before .before .before .before .before .before .before .before .before .before .before .before .args .locals .now) (c .before .before .before .before .before .before .before .before .before .before .before .before .before .before .before .before .before .before .before .args .by) (c .before .before .before .before .before .before .before .before .before .before .before .before .before .before .before .before .before .before .before .args .levels) (c .before .before .before .before .before .before .before .before .before .before .before .before .before .before .before .before .before .before .before .args .s) (c .before .before .before .before .before .before .before .before .before .before .before .before .before .before .before .before .before .before .before .args .stack .now) (c .before .before .before .before .before .before .before .before .before .before .before .before .before .before .before .before .before .before .before .args .out .now) (c .before .before .before .before .before .before .before .before .before .before .before .before .before .loop .stack) (c .before .before .before .before .before .before .before .before .before .before .before .before .before .loop .out) (record { count = c .before .before .before .before .before .before .before .before .before .before .before .before .before .loop .count; tail = c .before .before .before .before .before .before .before .before .before .before .before .before .before .loop .tail; hints = c .before .before .before .before .before .before .before .before .before .before .before .before .before .loop .hints; mask = c .before .before .before .before .before .before .before .before .before .before .before .before .before .loop .mask; tokens = c .before .before .before .before .before .before .before .before .before .before .before .before .before .loop .tokens; length = c .before .before .before .before .before .before .before .before .before .before .before .before .before .loop .end }) (c .before .before .before .before .before .before .before .before .before .before .before .before .before .loop .i) (d .turn) (c .before .before .before .before .before .before .before .before .before .before .looked3 .given .0 .0) (c .before .before .before .before .before .before .before .before .before .before .looked3 .given .0 .1 .0) (c .before .before .before .before .before .before .before .before .before .before .looked3 .given .0 .1 .1 .0) (c .before .before .before .before .before .before .before .before .before .before .looked3 .given .0 .1 .1 .1 .0) (c .before .before .before .before .before .before .before .before .before .before .looked3 .given .0 .1 .1 .1 .1 .0) _ _ _ _ f (c .before .before .before .before .before .before .before .put-operator2 .ensures .1) (c .before .before .before .before .before .before .before .put-operator2 .ensures .0) (c .before .before .put-mask .ensures .1) (c .before .before .put-mask .ensures .0 ∙ ap (λ (n : ℕ). c .before .before .before .before .before .before .before .put-operator2 .result + n) (part-long (c .before .before .before .before .before .before .before .before .before .before .before .before .before .before .before .before .before .before .before .args .cs .now) (c .before .before .before .before .before .before .before .before .before .before .looked3 .given .0 .1 .0) (c .before .before .before .before .before .before .before .before .before .before .looked3 .given .0 .1 .1 .0) (f .3) (f .4))))
 
--- src/charstring.rt:104:27
 run-enum-known-looked-4 : (t : ℕ) → Of run-lts.Need-enum-known-looked-4 t
 run-enum-known-looked-4 t c = search needs
 
--- src/charstring.rt:105:38
 run-sub-unpack : (t : ℕ) → Of run-lts.Need-sub-unpack t
 run-sub-unpack t c = let d = head t (c .before .before .before) in let f = asks (c .before .before .before .before .before .before .before .before .before .before .args .cs .now) (c .before .before .before .before .before .before .before .before .before .before .args .globals .now) (c .before .before .before .before .before .before .before .before .before .before .args .locals .now) (c .before .before .before .before .before .before .before .before .before .before .args .by) (c .before .before .before .before .before .before .before .before .before .before .args .levels) (c .before .before .before .before .before .before .before .before .before .before .args .s) (c .before .before .before .before .before .before .before .before .before .before .args .stack .now) (c .before .before .before .before .before .before .before .before .before .before .args .out .now) (c .before .before .before .before .loop .stack) (c .before .before .before .before .loop .out) (record { count = c .before .before .before .before .loop .count; tail = c .before .before .before .before .loop .tail; hints = c .before .before .before .before .loop .hints; mask = c .before .before .before .before .loop .mask; tokens = c .before .before .before .before .loop .tokens; length = c .before .before .before .before .loop .end }) (c .before .before .before .before .loop .i) (c .before .before .before .look .result) d (Call _ _) (c .before .looked4 .given .1) in omega (arith, f .3)
 
--- src/charstring.rt:105:32
 run-mul-unpack : (t : ℕ) → Of run-lts.Need-mul-unpack t
 run-mul-unpack t c = let d = head t (c .before .before .before) in let f = asks (c .before .before .before .before .before .before .before .before .before .before .args .cs .now) (c .before .before .before .before .before .before .before .before .before .before .args .globals .now) (c .before .before .before .before .before .before .before .before .before .before .args .locals .now) (c .before .before .before .before .before .before .before .before .before .before .args .by) (c .before .before .before .before .before .before .before .before .before .before .args .levels) (c .before .before .before .before .before .before .before .before .before .before .args .s) (c .before .before .before .before .before .before .before .before .before .before .args .stack .now) (c .before .before .before .before .before .before .before .before .before .before .args .out .now) (c .before .before .before .before .loop .stack) (c .before .before .before .before .loop .out) (record { count = c .before .before .before .before .loop .count; tail = c .before .before .before .before .loop .tail; hints = c .before .before .before .before .loop .hints; mask = c .before .before .before .before .loop .mask; tokens = c .before .before .before .before .loop .tokens; length = c .before .before .before .before .loop .end }) (c .before .before .before .before .loop .i) (c .before .before .before .look .result) d (Call _ _) (c .before .looked4 .given .1) in omega (arith, f .3, d .safe-now)
 
--- src/charstring.rt:105:32
 run-slice-read-unpack : (t : ℕ) → Of run-lts.Need-slice-read-unpack t
 run-slice-read-unpack t c = let d = head t (c .before .before .before .before) in let f = asks (c .before .before .before .before .before .before .before .before .before .before .before .args .cs .now) (c .before .before .before .before .before .before .before .before .before .before .before .args .globals .now) (c .before .before .before .before .before .before .before .before .before .before .before .args .locals .now) (c .before .before .before .before .before .before .before .before .before .before .before .args .by) (c .before .before .before .before .before .before .before .before .before .before .before .args .levels) (c .before .before .before .before .before .before .before .before .before .before .before .args .s) (c .before .before .before .before .before .before .before .before .before .before .before .args .stack .now) (c .before .before .before .before .before .before .before .before .before .before .before .args .out .now) (c .before .before .before .before .before .loop .stack) (c .before .before .before .before .before .loop .out) (record { count = c .before .before .before .before .before .loop .count; tail = c .before .before .before .before .before .loop .tail; hints = c .before .before .before .before .before .loop .hints; mask = c .before .before .before .before .before .loop .mask; tokens = c .before .before .before .before .before .loop .tokens; length = c .before .before .before .before .before .loop .end }) (c .before .before .before .before .before .loop .i) (c .before .before .before .before .look .result) d (Call _ _) (c .before .before .looked4 .given .1) in omega (arith, f .3, d .safe-now)
 
--- src/charstring.rt:105:21
 run-unpack-requires : (t : ℕ) → Of run-lts.Need-unpack-requires t
 run-unpack-requires t c κs = tt
 
--- src/charstring.rt:106:21
 run-choose-requires : (t : ℕ) → Of run-lts.Need-choose-requires t
 run-choose-requires t c κs = tt
 
--- src/charstring.rt:107:40
 run-choose-count-requires : (t : ℕ) → Of run-lts.Need-choose-count-requires t
 run-choose-count-requires t c κs = tt
 
--- src/charstring.rt:107:21
 run-aim-requires : (t : ℕ) → Of run-lts.Need-aim-requires t
 run-aim-requires t c κs = tt
 
--- src/charstring.rt:109:35
 run-enum-known-target : (t : ℕ) → Of run-lts.Need-enum-known-target t
 run-enum-known-target t c = search needs
 
--- src/charstring.rt:111:36
 run-sub-body : (t : ℕ) → Of run-lts.Need-sub-body t
 run-sub-body t c = let f = called t (c .before) in omega (arith, f .3)
 
--- src/charstring.rt:112:35
 run-sub-t71 : (t : ℕ) → Of run-lts.Need-sub-t71 t
 run-sub-t71 t c = let f = there t (c .before) in omega (arith, f .1 .0)
 
--- src/charstring.rt:115:37
 run-add-run : (t : ℕ) → Of run-lts.Need-add-run t
 run-add-run t c = let f = called t (c .before) in omega (arith, f .1 .begun .within, c .before .before .before .before .before .before .before .before .before .before .before .before .before .before .before .before .before .before .good)
 
--- src/charstring.rt:116:43
 run-size-of-requires : (t : ℕ) → Of run-lts.Need-size-of-requires t
 run-size-of-requires t c κs = tt
 
--- src/charstring.rt:116:37
 run-sub-t74 : (t : ℕ) → Of run-lts.Need-sub-t74 t
 run-sub-t74 t c = let f = there t (c .before .before) .0 in let e = c .size-of .ensures ∙ ap (λ (o : Operand). length (spelling charstringRows o)) (c .before .before .before .before .before .before .before .unpack .ensures) in omega arith
 
--- src/charstring.rt:118:36
 run-sub-body-2 : (t : ℕ) → Of run-lts.Need-sub-body-2 t
 run-sub-body-2 t c = within t (c .before .before) .0
 
--- src/charstring.rt:118:36
 run-part-body-start : (t : ℕ) → Of run-lts.Need-part-body-start t
 run-part-body-start t c = let f = within t (c .before .before) in omega (arith, f .0, f .1)
 
--- src/charstring.rt:118:36
 run-part-body-end : (t : ℕ) → Of run-lts.Need-part-body-end t
 run-part-body-end t c = let f = within t (c .before .before) in omega (arith, f .0, f .1)
 
--- src/charstring.rt:119:83
 run-sub-run : (t : ℕ) → Of run-lts.Need-sub-run t
 run-sub-run t c = let n = there t (c .before .before .before .before .before) .1 .1 in omega arith
 
--- src/charstring.rt:119:29
 run-run-requires : (t : ℕ) → Of run-lts.Need-run-requires t
 run-run-requires t c κs = let d = head t (c .before .before .before .before .before .before .before .before .before .before .before .before .before .before .before) in let n = there t (c .before .before .before .before .before) .1 .1 in let z = c .before .before .before .before .before .before .before .before .before .before .before .before .before .before .before .before .before .before .before .before .before .before .pre .0 in (omega arith, (setting-now (c .before .before .before .before .before .before .before .before .before .before .before .before .before .before .before .before .before .before .before .before .before .before .args .cs .now) (c .before .before .before .before .before .before .before .before .before .before .before .before .before .before .before .before .before .before .before .before .before .before .args .globals .now) (c .before .before .before .before .before .before .before .before .before .before .before .before .before .before .before .before .before .before .before .before .before .before .args .locals .now) (c .before .before .before .before .before .before .before .before .before .before .before .before .before .before .before .before .before .before .before .before .before .before .args .by) (c .before .before .before .before .before .before .before .before .before .before .before .before .before .before .before .before .before .before .before .before .before .before .args .levels) (c .before .before .before .before .before .before .before .before .before .before .before .before .before .before .before .before .before .before .before .before .before .before .args .s) (c .before .before .before .before .before .before .before .before .before .before .before .before .before .before .before .before .before .before .before .before .before .before .args .stack .now) (c .before .before .before .before .before .before .before .before .before .before .before .before .before .before .before .before .before .before .before .before .before .before .args .out .now) (c .before .before .before .before .before .before .before .before .before .before .before .before .before .before .before .before .loop .stack) (c .before .before .before .before .before .before .before .before .before .before .before .before .before .before .before .before .loop .out) (record { count = c .before .before .before .before .before .before .before .before .before .before .before .before .before .before .before .before .loop .count; tail = c .before .before .before .before .before .before .before .before .before .before .before .before .before .before .before .before .loop .tail; hints = c .before .before .before .before .before .before .before .before .before .before .before .before .before .before .before .before .loop .hints; mask = c .before .before .before .before .before .before .before .before .before .before .before .before .before .before .before .before .loop .mask; tokens = c .before .before .before .before .before .before .before .before .before .before .before .before .before .before .before .before .loop .tokens; length = c .before .before .before .before .before .before .before .before .before .before .before .before .before .before .before .before .loop .end }) (c .before .before .before .before .before .before .before .before .before .before .before .before .before .before .before .before .loop .i) (d .turn), inside-sound (c .before .before .before .before .before .before .before .before .before .before .before .before .before .before .before .before .before .before .before .before .before .before .args .cs .now) (c .before .before .before .before .before .before .before .before .before .before .before .before .before .before .before .before .before .before .before .before .before .before .args .globals .now) (c .before .before .before .before .before .before .before .before .before .before .before .before .before .before .before .before .before .before .before .before .before .before .args .locals .now) (c .before .before .before .before .before .before .before .before .before .before .before .before .before .before .before .before .before .before .before .before .before .before .args .by) (c .before .before .before .before .before .before .before .before .before .before .before .before .before .before .before .before .before .before .before .before .before .before .args .levels) (c .before .before .before .before .before .before .before .before .before .before .before .before .before .before .before .before .before .before .before .before .before .before .args .s) (c .before .before .before .before .before .before .before .before .before .before .before .before .before .before .before .before .before .before .before .before .before .before .args .stack .now) (c .before .before .before .before .before .before .before .before .before .before .before .before .before .before .before .before .before .before .before .before .before .before .args .out .now) (c .before .before .before .before .before .before .before .before .before .before .before .before .before .before .before .before .loop .stack) (c .before .before .before .before .before .before .before .before .before .before .before .before .before .before .before .before .loop .out) (record { count = c .before .before .before .before .before .before .before .before .before .before .before .before .before .before .before .before .loop .count; tail = c .before .before .before .before .before .before .before .before .before .before .before .before .before .before .before .before .loop .tail; hints = c .before .before .before .before .before .before .before .before .before .before .before .before .before .before .before .before .loop .hints; mask = c .before .before .before .before .before .before .before .before .before .before .before .before .before .before .before .before .loop .mask; tokens = c .before .before .before .before .before .before .before .before .before .before .before .before .before .before .before .before .loop .tokens; length = c .before .before .before .before .before .before .before .before .before .before .before .before .before .before .before .before .loop .end }) (c .before .before .before .before .before .before .before .before .before .before .before .before .before .before .before .before .loop .i) (d .turn) (c .before .before .before .before .before .before .before .before .before .before .before .before .before .looked4 .given .0 .0) (c .before .before .before .before .before .before .before .before .before .before .before .before .before .looked4 .given .0 .1 .0) (called t (c .before .before .before .before .before)) (c .before .before .before .before .before .target .given .0 .0) (c .before .before .before .before .before .target .given .0 .1 .0) (aims t (c .before .before .before .before .before)) (c .before .before .before .size-of .result) (sized t (c .before .before .before)) (d .sound)))
 
--- src/charstring.rt:123:37
 run-enum-told : (t : ℕ) → Of run-lts.Need-enum-told t
 run-enum-told t c = search needs
 
--- src/charstring.rt:75:5
 run-loop-less-4 : (t : ℕ) → Of run-lts.Need-loop-less-4 t
 run-loop-less-4 t c = let f = called t (c .before .before .before .before .before .before .before .before .before .before .before .before .before) in omega (arith, f .1 .begun .ahead, f .1 .begun .inside)
 
--- src/charstring.rt:75:5
 run-loop-again-4 : (t : ℕ) → Of run-lts.Need-loop-again-4 t
 run-loop-again-4 t c = let d = head t (c .before .before .before .before .before .before .before .before .before .before .before .before .before .before .before .before .before .before .before .before .before .before .before) in (c .before .before .before .before .before .before .before .run .kept .1 .1 .1 .1 .1 .0 ∙ c .before .before .before .before .before .before .before .before .before .before .before .before .before .before .before .before .before .before .before .before .before .before .before .before .loop .inv .0, c .before .before .before .before .before .before .before .run .kept .1 .1 .1 .1 .1 .1 .0 ∙ c .before .before .before .before .before .before .before .before .before .before .before .before .before .before .before .before .before .before .before .before .before .before .before .before .loop .inv .1, arm-back (c .before .before .before .before .before .before .before .before .before .before .before .before .before .before .before .before .before .before .before .before .before .before .before .before .before .before .before .before .before .before .args .cs .now) (c .before .before .before .before .before .before .before .before .before .before .before .before .before .before .before .before .before .before .before .before .before .before .before .before .before .before .before .before .before .before .args .globals .now) (c .before .before .before .before .before .before .before .before .before .before .before .before .before .before .before .before .before .before .before .before .before .before .before .before .before .before .before .before .before .before .args .locals .now) (c .before .before .before .before .before .before .before .before .before .before .before .before .before .before .before .before .before .before .before .before .before .before .before .before .before .before .before .before .before .before .args .by) (c .before .before .before .before .before .before .before .before .before .before .before .before .before .before .before .before .before .before .before .before .before .before .before .before .before .before .before .before .before .before .args .levels) (c .before .before .before .before .before .before .before .before .before .before .before .before .before .before .before .before .before .before .before .before .before .before .before .before .before .before .before .before .before .before .args .s) (c .before .before .before .before .before .before .before .before .before .before .before .before .before .before .before .before .before .before .before .before .before .before .before .before .before .before .before .before .before .before .args .stack .now) (c .before .before .before .before .before .before .before .before .before .before .before .before .before .before .before .before .before .before .before .before .before .before .before .before .before .before .before .before .before .before .args .out .now) (c .before .before .before .before .before .before .before .before .before .before .before .before .before .before .before .before .before .before .before .before .before .before .before .before .loop .stack) (c .before .before .before .before .before .before .before .before .before .before .before .before .before .before .before .before .before .before .before .before .before .before .before .before .loop .out) (record { count = c .before .before .before .before .before .before .before .before .before .before .before .before .before .before .before .before .before .before .before .before .before .before .before .before .loop .count; tail = c .before .before .before .before .before .before .before .before .before .before .before .before .before .before .before .before .before .before .before .before .before .before .before .before .loop .tail; hints = c .before .before .before .before .before .before .before .before .before .before .before .before .before .before .before .before .before .before .before .before .before .before .before .before .loop .hints; mask = c .before .before .before .before .before .before .before .before .before .before .before .before .before .before .before .before .before .before .before .before .before .before .before .before .loop .mask; tokens = c .before .before .before .before .before .before .before .before .before .before .before .before .before .before .before .before .before .before .before .before .before .before .before .before .loop .tokens; length = c .before .before .before .before .before .before .before .before .before .before .before .before .before .before .before .before .before .before .before .before .before .before .before .before .loop .end }) (c .before .before .before .before .before .before .before .before .before .before .before .before .before .before .before .before .before .before .before .before .before .before .before .before .loop .i) (d .turn) (c .before .before .before .before .before .before .before .before .before .before .before .before .before .before .before .before .before .before .before .before .before .looked4 .given .0 .0) (c .before .before .before .before .before .before .before .before .before .before .before .before .before .before .before .before .before .before .before .before .before .looked4 .given .0 .1 .0) (called t (c .before .before .before .before .before .before .before .before .before .before .before .before .before)) (c .before .before .before .before .before .before .before .before .before .before .before .before .before .target .given .0 .0) (c .before .before .before .before .before .before .before .before .before .before .before .before .before .target .given .0 .1 .0) (aims t (c .before .before .before .before .before .before .before .before .before .before .before .before .before)) (c .before .before .before .before .before .before .before .before .before .before .before .size-of .result) (sized t (c .before .before .before .before .before .before .before .before .before .before .before)) (c .before .before .before .before .before .before .before .run .result) _ _ (subst (λ (l : List ℕ). RunsTo (take (c .before .before .before .before .before .before .before .before .before .before .before .before .before .target .given .0 .1 .0 - c .before .before .before .before .before .before .before .before .before .before .before .before .before .target .given .0 .0) (drop (c .before .before .before .before .before .before .before .before .before .before .before .before .before .target .given .0 .0) l)) (c .before .before .before .before .before .before .before .before .before .before .before .before .before .before .before .before .before .before .before .before .before .before .before .before .before .before .before .before .before .before .args .globals .now) (c .before .before .before .before .before .before .before .before .before .before .before .before .before .before .before .before .before .before .before .before .before .before .before .before .before .before .before .before .before .before .args .locals .now) (c .before .before .before .before .before .before .before .before .before .before .before .before .before .before .before .before .before .before .before .before .before .before .before .before .before .before .before .before .before .before .args .by) (record { count = c .before .before .before .before .before .before .before .before .before .before .before .before .before .before .before .before .before .before .before .before .before .before .before .before .loop .count - 1; tail = c .before .before .before .before .before .before .before .before .before .before .before .before .before .before .before .before .before .before .before .before .before .before .before .before .loop .tail - 1; hints = c .before .before .before .before .before .before .before .before .before .before .before .before .before .before .before .before .before .before .before .before .before .before .before .before .loop .hints; mask = c .before .before .before .before .before .before .before .before .before .before .before .before .before .before .before .before .before .before .before .before .before .before .before .before .loop .mask; tokens = c .before .before .before .before .before .before .before .before .before .before .before .before .before .before .before .before .before .before .before .before .before .before .before .before .loop .tokens + 1; length = c .before .before .before .before .before .before .before .before .before .before .before .before .before .before .before .before .before .before .before .before .before .before .before .before .loop .end - c .before .before .before .before .before .before .before .before .before .before .before .size-of .result }) (c .before .before .before .before .before .before .before .before .before .before .before .before .before .before .before .before .before .before .before .before .before .before .before .before .loop .stack) (c .before .before .before .before .before .before .before .before .before .before .before .before .before .before .before .before .before .before .before .before .before .before .before .before .loop .out) (c .before .before .before .before .before .before .before .before .before .before .before .before .before .before .before .before .before .before .before .before .before .before .before .before .before .before .before .before .before .before .args .levels - 1) (c .before .before .before .before .before .before .before .run .result) (c .before .before .before .before .before .before .before .run .last .1 .1 .1 .1 .1 .0) (c .before .before .before .before .before .before .before .run .last .1 .1 .1 .1 .1 .1 .0)) (c .before .before .before .before .before .before .before .before .before .before .before .before .before .before .before .before .before .choose .ensures) (c .before .before .before .before .before .before .before .run .ensures)) (c .before .enum-told .given .1))
 
--- src/charstring.rt:133:33
 run-enum-told-2 : (t : ℕ) → Of run-lts.Need-enum-told-2 t
 run-enum-told-2 t c = search needs
 
--- src/charstring.rt:133:33
 run-same-length : (t : ℕ) → Of run-lts.Need-same-length t
 run-same-length t c = c .before .before .before .before .before .before .run .kept .1 .1 .1 .1 .1 .0 ∙ c .before .before .before .before .before .before .before .before .before .before .before .before .before .before .before .before .before .before .before .before .before .before .before .loop .inv .0
 
--- src/charstring.rt:133:33
 run-same-length-2 : (t : ℕ) → Of run-lts.Need-same-length-2 t
 run-same-length-2 t c = c .before .before .before .before .before .before .run .kept .1 .1 .1 .1 .1 .1 .0 ∙ c .before .before .before .before .before .before .before .before .before .before .before .before .before .before .before .before .before .before .before .before .before .before .before .loop .inv .1
 
--- src/charstring.rt:133:33
 run-returns : (t : ℕ) → Of run-lts.Need-returns t
 unfolding RunsTo
 run-returns t c = let d = head t (c .before .before .before .before .before .before .before .before .before .before .before .before .before .before .before .before .before .before .before .before .before .before) in arm-passed (c .before .before .before .before .before .before .before .before .before .before .before .before .before .before .before .before .before .before .before .before .before .before .before .before .before .before .before .before .before .args .cs .now) (c .before .before .before .before .before .before .before .before .before .before .before .before .before .before .before .before .before .before .before .before .before .before .before .before .before .before .before .before .before .args .globals .now) (c .before .before .before .before .before .before .before .before .before .before .before .before .before .before .before .before .before .before .before .before .before .before .before .before .before .before .before .before .before .args .locals .now) (c .before .before .before .before .before .before .before .before .before .before .before .before .before .before .before .before .before .before .before .before .before .before .before .before .before .before .before .before .before .args .by) (c .before .before .before .before .before .before .before .before .before .before .before .before .before .before .before .before .before .before .before .before .before .before .before .before .before .before .before .before .before .args .levels) (c .before .before .before .before .before .before .before .before .before .before .before .before .before .before .before .before .before .before .before .before .before .before .before .before .before .before .before .before .before .args .s) (c .before .before .before .before .before .before .before .before .before .before .before .before .before .before .before .before .before .before .before .before .before .before .before .before .before .before .before .before .before .args .stack .now) (c .before .before .before .before .before .before .before .before .before .before .before .before .before .before .before .before .before .before .before .before .before .before .before .before .before .before .before .before .before .args .out .now) (c .before .before .before .before .before .before .before .before .before .before .before .before .before .before .before .before .before .before .before .before .before .before .before .loop .stack) (c .before .before .before .before .before .before .before .before .before .before .before .before .before .before .before .before .before .before .before .before .before .before .before .loop .out) (record { count = c .before .before .before .before .before .before .before .before .before .before .before .before .before .before .before .before .before .before .before .before .before .before .before .loop .count; tail = c .before .before .before .before .before .before .before .before .before .before .before .before .before .before .before .before .before .before .before .before .before .before .before .loop .tail; hints = c .before .before .before .before .before .before .before .before .before .before .before .before .before .before .before .before .before .before .before .before .before .before .before .loop .hints; mask = c .before .before .before .before .before .before .before .before .before .before .before .before .before .before .before .before .before .before .before .before .before .before .before .loop .mask; tokens = c .before .before .before .before .before .before .before .before .before .before .before .before .before .before .before .before .before .before .before .before .before .before .before .loop .tokens; length = c .before .before .before .before .before .before .before .before .before .before .before .before .before .before .before .before .before .before .before .before .before .before .before .loop .end }) (c .before .before .before .before .before .before .before .before .before .before .before .before .before .before .before .before .before .before .before .before .before .before .before .loop .i) (d .turn) (c .before .before .before .before .before .before .before .before .before .before .before .before .before .before .before .before .before .before .before .before .looked4 .given .0 .0) (c .before .before .before .before .before .before .before .before .before .before .before .before .before .before .before .before .before .before .before .before .looked4 .given .0 .1 .0) (called t (c .before .before .before .before .before .before .before .before .before .before .before .before)) (c .before .before .before .before .before .before .before .before .before .before .before .before .target .given .0 .0) (c .before .before .before .before .before .before .before .before .before .before .before .before .target .given .0 .1 .0) (aims t (c .before .before .before .before .before .before .before .before .before .before .before .before)) (c .before .before .before .before .before .before .before .before .before .before .size-of .result) (sized t (c .before .before .before .before .before .before .before .before .before .before)) (c .before .before .before .before .before .before .run .result) _ _ (subst (λ (l : List ℕ). RunsTo (take (c .before .before .before .before .before .before .before .before .before .before .before .before .target .given .0 .1 .0 - c .before .before .before .before .before .before .before .before .before .before .before .before .target .given .0 .0) (drop (c .before .before .before .before .before .before .before .before .before .before .before .before .target .given .0 .0) l)) (c .before .before .before .before .before .before .before .before .before .before .before .before .before .before .before .before .before .before .before .before .before .before .before .before .before .before .before .before .before .args .globals .now) (c .before .before .before .before .before .before .before .before .before .before .before .before .before .before .before .before .before .before .before .before .before .before .before .before .before .before .before .before .before .args .locals .now) (c .before .before .before .before .before .before .before .before .before .before .before .before .before .before .before .before .before .before .before .before .before .before .before .before .before .before .before .before .before .args .by) (record { count = c .before .before .before .before .before .before .before .before .before .before .before .before .before .before .before .before .before .before .before .before .before .before .before .loop .count - 1; tail = c .before .before .before .before .before .before .before .before .before .before .before .before .before .before .before .before .before .before .before .before .before .before .before .loop .tail - 1; hints = c .before .before .before .before .before .before .before .before .before .before .before .before .before .before .before .before .before .before .before .before .before .before .before .loop .hints; mask = c .before .before .before .before .before .before .before .before .before .before .before .before .before .before .before .before .before .before .before .before .before .before .before .loop .mask; tokens = c .before .before .before .before .before .before .before .before .before .before .before .before .before .before .before .before .before .before .before .before .before .before .before .loop .tokens + 1; length = c .before .before .before .before .before .before .before .before .before .before .before .before .before .before .before .before .before .before .before .before .before .before .before .loop .end - c .before .before .before .before .before .before .before .before .before .before .size-of .result }) (c .before .before .before .before .before .before .before .before .before .before .before .before .before .before .before .before .before .before .before .before .before .before .before .loop .stack) (c .before .before .before .before .before .before .before .before .before .before .before .before .before .before .before .before .before .before .before .before .before .before .before .loop .out) (c .before .before .before .before .before .before .before .before .before .before .before .before .before .before .before .before .before .before .before .before .before .before .before .before .before .before .before .before .before .args .levels - 1) (c .before .before .before .before .before .before .run .result) (c .before .before .before .before .before .before .run .last .1 .1 .1 .1 .1 .0) (c .before .before .before .before .before .before .run .last .1 .1 .1 .1 .1 .1 .0)) (c .before .before .before .before .before .before .before .before .before .before .before .before .before .before .before .before .choose .ensures) (c .before .before .before .before .before .before .run .ensures)) (ended-goes _ (c .enum-told2 .given .1))
 
--- src/charstring.rt:136:33
 run-enum-told-3 : (t : ℕ) → Of run-lts.Need-enum-told-3 t
 run-enum-told-3 t c = search needs
 
--- src/charstring.rt:136:33
 run-same-length-3 : (t : ℕ) → Of run-lts.Need-same-length-3 t
 run-same-length-3 t c = c .before .before .before .before .before .before .run .kept .1 .1 .1 .1 .1 .0 ∙ c .before .before .before .before .before .before .before .before .before .before .before .before .before .before .before .before .before .before .before .before .before .before .before .loop .inv .0
 
--- src/charstring.rt:136:33
 run-same-length-4 : (t : ℕ) → Of run-lts.Need-same-length-4 t
 run-same-length-4 t c = c .before .before .before .before .before .before .run .kept .1 .1 .1 .1 .1 .1 .0 ∙ c .before .before .before .before .before .before .before .before .before .before .before .before .before .before .before .before .before .before .before .before .before .before .before .loop .inv .1
 
--- src/charstring.rt:136:33
 run-returns-2 : (t : ℕ) → Of run-lts.Need-returns-2 t
 unfolding RunsTo
 run-returns-2 t c = let d = head t (c .before .before .before .before .before .before .before .before .before .before .before .before .before .before .before .before .before .before .before .before .before .before) in arm-passed (c .before .before .before .before .before .before .before .before .before .before .before .before .before .before .before .before .before .before .before .before .before .before .before .before .before .before .before .before .before .args .cs .now) (c .before .before .before .before .before .before .before .before .before .before .before .before .before .before .before .before .before .before .before .before .before .before .before .before .before .before .before .before .before .args .globals .now) (c .before .before .before .before .before .before .before .before .before .before .before .before .before .before .before .before .before .before .before .before .before .before .before .before .before .before .before .before .before .args .locals .now) (c .before .before .before .before .before .before .before .before .before .before .before .before .before .before .before .before .before .before .before .before .before .before .before .before .before .before .before .before .before .args .by) (c .before .before .before .before .before .before .before .before .before .before .before .before .before .before .before .before .before .before .before .before .before .before .before .before .before .before .before .before .before .args .levels) (c .before .before .before .before .before .before .before .before .before .before .before .before .before .before .before .before .before .before .before .before .before .before .before .before .before .before .before .before .before .args .s) (c .before .before .before .before .before .before .before .before .before .before .before .before .before .before .before .before .before .before .before .before .before .before .before .before .before .before .before .before .before .args .stack .now) (c .before .before .before .before .before .before .before .before .before .before .before .before .before .before .before .before .before .before .before .before .before .before .before .before .before .before .before .before .before .args .out .now) (c .before .before .before .before .before .before .before .before .before .before .before .before .before .before .before .before .before .before .before .before .before .before .before .loop .stack) (c .before .before .before .before .before .before .before .before .before .before .before .before .before .before .before .before .before .before .before .before .before .before .before .loop .out) (record { count = c .before .before .before .before .before .before .before .before .before .before .before .before .before .before .before .before .before .before .before .before .before .before .before .loop .count; tail = c .before .before .before .before .before .before .before .before .before .before .before .before .before .before .before .before .before .before .before .before .before .before .before .loop .tail; hints = c .before .before .before .before .before .before .before .before .before .before .before .before .before .before .before .before .before .before .before .before .before .before .before .loop .hints; mask = c .before .before .before .before .before .before .before .before .before .before .before .before .before .before .before .before .before .before .before .before .before .before .before .loop .mask; tokens = c .before .before .before .before .before .before .before .before .before .before .before .before .before .before .before .before .before .before .before .before .before .before .before .loop .tokens; length = c .before .before .before .before .before .before .before .before .before .before .before .before .before .before .before .before .before .before .before .before .before .before .before .loop .end }) (c .before .before .before .before .before .before .before .before .before .before .before .before .before .before .before .before .before .before .before .before .before .before .before .loop .i) (d .turn) (c .before .before .before .before .before .before .before .before .before .before .before .before .before .before .before .before .before .before .before .before .looked4 .given .0 .0) (c .before .before .before .before .before .before .before .before .before .before .before .before .before .before .before .before .before .before .before .before .looked4 .given .0 .1 .0) (called t (c .before .before .before .before .before .before .before .before .before .before .before .before)) (c .before .before .before .before .before .before .before .before .before .before .before .before .target .given .0 .0) (c .before .before .before .before .before .before .before .before .before .before .before .before .target .given .0 .1 .0) (aims t (c .before .before .before .before .before .before .before .before .before .before .before .before)) (c .before .before .before .before .before .before .before .before .before .before .size-of .result) (sized t (c .before .before .before .before .before .before .before .before .before .before)) (c .before .before .before .before .before .before .run .result) _ _ (subst (λ (l : List ℕ). RunsTo (take (c .before .before .before .before .before .before .before .before .before .before .before .before .target .given .0 .1 .0 - c .before .before .before .before .before .before .before .before .before .before .before .before .target .given .0 .0) (drop (c .before .before .before .before .before .before .before .before .before .before .before .before .target .given .0 .0) l)) (c .before .before .before .before .before .before .before .before .before .before .before .before .before .before .before .before .before .before .before .before .before .before .before .before .before .before .before .before .before .args .globals .now) (c .before .before .before .before .before .before .before .before .before .before .before .before .before .before .before .before .before .before .before .before .before .before .before .before .before .before .before .before .before .args .locals .now) (c .before .before .before .before .before .before .before .before .before .before .before .before .before .before .before .before .before .before .before .before .before .before .before .before .before .before .before .before .before .args .by) (record { count = c .before .before .before .before .before .before .before .before .before .before .before .before .before .before .before .before .before .before .before .before .before .before .before .loop .count - 1; tail = c .before .before .before .before .before .before .before .before .before .before .before .before .before .before .before .before .before .before .before .before .before .before .before .loop .tail - 1; hints = c .before .before .before .before .before .before .before .before .before .before .before .before .before .before .before .before .before .before .before .before .before .before .before .loop .hints; mask = c .before .before .before .before .before .before .before .before .before .before .before .before .before .before .before .before .before .before .before .before .before .before .before .loop .mask; tokens = c .before .before .before .before .before .before .before .before .before .before .before .before .before .before .before .before .before .before .before .before .before .before .before .loop .tokens + 1; length = c .before .before .before .before .before .before .before .before .before .before .before .before .before .before .before .before .before .before .before .before .before .before .before .loop .end - c .before .before .before .before .before .before .before .before .before .before .size-of .result }) (c .before .before .before .before .before .before .before .before .before .before .before .before .before .before .before .before .before .before .before .before .before .before .before .loop .stack) (c .before .before .before .before .before .before .before .before .before .before .before .before .before .before .before .before .before .before .before .before .before .before .before .loop .out) (c .before .before .before .before .before .before .before .before .before .before .before .before .before .before .before .before .before .before .before .before .before .before .before .before .before .before .before .before .before .args .levels - 1) (c .before .before .before .before .before .before .run .result) (c .before .before .before .before .before .before .run .last .1 .1 .1 .1 .1 .0) (c .before .before .before .before .before .before .run .last .1 .1 .1 .1 .1 .1 .0)) (c .before .before .before .before .before .before .before .before .before .before .before .before .before .before .before .before .choose .ensures) (c .before .before .before .before .before .before .run .ensures)) (refused-goes _ _ (c .enum-told3 .given .1))
 
--- src/charstring.rt:140:32
 run-enum-known-target-2 : (t : ℕ) → Of run-lts.Need-enum-known-target-2 t
 run-enum-known-target-2 t c = search needs
 
--- src/charstring.rt:142:25
 run-same-length-5 : (t : ℕ) → Of run-lts.Need-same-length-5 t
 run-same-length-5 t c = c .before .before .before .before .before .before .before .before .before .before .before .before .loop .inv .0
 
--- src/charstring.rt:142:25
 run-same-length-6 : (t : ℕ) → Of run-lts.Need-same-length-6 t
 run-same-length-6 t c = c .before .before .before .before .before .before .before .before .before .before .before .before .loop .inv .1
 
--- src/charstring.rt:142:25
 run-returns-3 : (t : ℕ) → Of run-lts.Need-returns-3 t
 unfolding RunsTo
 run-returns-3 t c = let d = head t (c .before .before .before .before .before .before .before .before .before .before .before) in let f = asks (c .before .before .before .before .before .before .before .before .before .before .before .before .before .before .before .before .before .before .args .cs .now) (c .before .before .before .before .before .before .before .before .before .before .before .before .before .before .before .before .before .before .args .globals .now) (c .before .before .before .before .before .before .before .before .before .before .before .before .before .before .before .before .before .before .args .locals .now) (c .before .before .before .before .before .before .before .before .before .before .before .before .before .before .before .before .before .before .args .by) (c .before .before .before .before .before .before .before .before .before .before .before .before .before .before .before .before .before .before .args .levels) (c .before .before .before .before .before .before .before .before .before .before .before .before .before .before .before .before .before .before .args .s) (c .before .before .before .before .before .before .before .before .before .before .before .before .before .before .before .before .before .before .args .stack .now) (c .before .before .before .before .before .before .before .before .before .before .before .before .before .before .before .before .before .before .args .out .now) (c .before .before .before .before .before .before .before .before .before .before .before .before .loop .stack) (c .before .before .before .before .before .before .before .before .before .before .before .before .loop .out) (record { count = c .before .before .before .before .before .before .before .before .before .before .before .before .loop .count; tail = c .before .before .before .before .before .before .before .before .before .before .before .before .loop .tail; hints = c .before .before .before .before .before .before .before .before .before .before .before .before .loop .hints; mask = c .before .before .before .before .before .before .before .before .before .before .before .before .loop .mask; tokens = c .before .before .before .before .before .before .before .before .before .before .before .before .loop .tokens; length = c .before .before .before .before .before .before .before .before .before .before .before .before .loop .end }) (c .before .before .before .before .before .before .before .before .before .before .before .before .loop .i) (c .before .before .before .before .before .before .before .before .before .before .before .look .result) d (Call _ _) (c .before .before .before .before .before .before .before .before .before .looked4 .given .1) in arm-no (c .before .before .before .before .before .before .before .before .before .before .before .before .before .before .before .before .before .before .args .cs .now) (c .before .before .before .before .before .before .before .before .before .before .before .before .before .before .before .before .before .before .args .globals .now) (c .before .before .before .before .before .before .before .before .before .before .before .before .before .before .before .before .before .before .args .locals .now) (c .before .before .before .before .before .before .before .before .before .before .before .before .before .before .before .before .before .before .args .by) (c .before .before .before .before .before .before .before .before .before .before .before .before .before .before .before .before .before .before .args .levels) (c .before .before .before .before .before .before .before .before .before .before .before .before .before .before .before .before .before .before .args .s) (c .before .before .before .before .before .before .before .before .before .before .before .before .before .before .before .before .before .before .args .stack .now) (c .before .before .before .before .before .before .before .before .before .before .before .before .before .before .before .before .before .before .args .out .now) (c .before .before .before .before .before .before .before .before .before .before .before .before .loop .stack) (c .before .before .before .before .before .before .before .before .before .before .before .before .loop .out) (record { count = c .before .before .before .before .before .before .before .before .before .before .before .before .loop .count; tail = c .before .before .before .before .before .before .before .before .before .before .before .before .loop .tail; hints = c .before .before .before .before .before .before .before .before .before .before .before .before .loop .hints; mask = c .before .before .before .before .before .before .before .before .before .before .before .before .loop .mask; tokens = c .before .before .before .before .before .before .before .before .before .before .before .before .loop .tokens; length = c .before .before .before .before .before .before .before .before .before .before .before .before .loop .end }) (c .before .before .before .before .before .before .before .before .before .before .before .before .loop .i) (d .turn) (c .before .before .before .before .before .before .before .before .before .looked4 .given .0 .0) (c .before .before .before .before .before .before .before .before .before .looked4 .given .0 .1 .0) f (c .before .target2 .given .0 .0) (aims-at _ _ _ _ _ _ _ _ _ _ _ (c .before .before .before .before .before .choose .ensures) (c .before .before .before .before .choose-count .ensures) (c .before .before .before .before .before .before .unpack .ensures) (c .before .target2 .given .1) (c .before .before .before .aim .ensures .0))
 
--- src/charstring.rt:147:68
 run-enum-told-4 : (t : ℕ) → Of run-lts.Need-enum-told-4 t
 run-enum-told-4 t c = search needs
 
--- src/charstring.rt:147:68
 run-add-t82 : (t : ℕ) → Of run-lts.Need-add-t82 t
 run-add-t82 t c = let d = head t (c .before .before) in let f = asks (c .before .before .before .before .before .before .before .before .before .args .cs .now) (c .before .before .before .before .before .before .before .before .before .args .globals .now) (c .before .before .before .before .before .before .before .before .before .args .locals .now) (c .before .before .before .before .before .before .before .before .before .args .by) (c .before .before .before .before .before .before .before .before .before .args .levels) (c .before .before .before .before .before .before .before .before .before .args .s) (c .before .before .before .before .before .before .before .before .before .args .stack .now) (c .before .before .before .before .before .before .before .before .before .args .out .now) (c .before .before .before .loop .stack) (c .before .before .before .loop .out) (record { count = c .before .before .before .loop .count; tail = c .before .before .before .loop .tail; hints = c .before .before .before .loop .hints; mask = c .before .before .before .loop .mask; tokens = c .before .before .before .loop .tokens; length = c .before .before .before .loop .end }) (c .before .before .before .loop .i) (c .before .before .look .result) d Return (c .enum-told4 .given .1) in omega (arith, f .2 .begun)
 
--- src/charstring.rt:148:17
 run-same-length-7 : (t : ℕ) → Of run-lts.Need-same-length-7 t
 run-same-length-7 t c = c .before .before .before .loop .inv .0
 
--- src/charstring.rt:148:17
 run-same-length-8 : (t : ℕ) → Of run-lts.Need-same-length-8 t
 run-same-length-8 t c = c .before .before .before .loop .inv .1
 
--- src/charstring.rt:148:17
 run-returns-4 : (t : ℕ) → Of run-lts.Need-returns-4 t
 unfolding RunsTo
 run-returns-4 t c = let d = head t (c .before .before) in let f = asks (c .before .before .before .before .before .before .before .before .before .args .cs .now) (c .before .before .before .before .before .before .before .before .before .args .globals .now) (c .before .before .before .before .before .before .before .before .before .args .locals .now) (c .before .before .before .before .before .before .before .before .before .args .by) (c .before .before .before .before .before .before .before .before .before .args .levels) (c .before .before .before .before .before .before .before .before .before .args .s) (c .before .before .before .before .before .before .before .before .before .args .stack .now) (c .before .before .before .before .before .before .before .before .before .args .out .now) (c .before .before .before .loop .stack) (c .before .before .before .loop .out) (record { count = c .before .before .before .loop .count; tail = c .before .before .before .loop .tail; hints = c .before .before .before .loop .hints; mask = c .before .before .before .loop .mask; tokens = c .before .before .before .loop .tokens; length = c .before .before .before .loop .end }) (c .before .before .before .loop .i) (c .before .before .look .result) d Return (c .enum-told4 .given .1) in arm-return (c .before .before .before .before .before .before .before .before .before .args .cs .now) (c .before .before .before .before .before .before .before .before .before .args .globals .now) (c .before .before .before .before .before .before .before .before .before .args .locals .now) (c .before .before .before .before .before .before .before .before .before .args .by) (c .before .before .before .before .before .before .before .before .before .args .levels) (c .before .before .before .before .before .before .before .before .before .args .s) (c .before .before .before .before .before .before .before .before .before .args .stack .now) (c .before .before .before .before .before .before .before .before .before .args .out .now) (c .before .before .before .loop .stack) (c .before .before .before .loop .out) (record { count = c .before .before .before .loop .count; tail = c .before .before .before .loop .tail; hints = c .before .before .before .loop .hints; mask = c .before .before .before .loop .mask; tokens = c .before .before .before .loop .tokens; length = c .before .before .before .loop .end }) (c .before .before .before .loop .i) (d .turn) f
 
--- src/charstring.rt:150:26
 run-enum-known-looked-5 : (t : ℕ) → Of run-lts.Need-enum-known-looked-5 t
 run-enum-known-looked-5 t c = search needs
 
--- src/charstring.rt:151:21
 run-put-operator-requires-3 : (t : ℕ) → Of run-lts.Need-put-operator-requires-3 t
 run-put-operator-requires-3 t c κs = let d = head t (c .before .before .before .before) in let f = asks (c .before .before .before .before .before .before .before .before .before .before .before .args .cs .now) (c .before .before .before .before .before .before .before .before .before .before .before .args .globals .now) (c .before .before .before .before .before .before .before .before .before .before .before .args .locals .now) (c .before .before .before .before .before .before .before .before .before .before .before .args .by) (c .before .before .before .before .before .before .before .before .before .before .before .args .levels) (c .before .before .before .before .before .before .before .before .before .before .before .args .s) (c .before .before .before .before .before .before .before .before .before .before .before .args .stack .now) (c .before .before .before .before .before .before .before .before .before .before .before .args .out .now) (c .before .before .before .before .before .loop .stack) (c .before .before .before .before .before .loop .out) (record { count = c .before .before .before .before .before .loop .count; tail = c .before .before .before .before .before .loop .tail; hints = c .before .before .before .before .before .loop .hints; mask = c .before .before .before .before .before .loop .mask; tokens = c .before .before .before .before .before .loop .tokens; length = c .before .before .before .before .before .loop .end }) (c .before .before .before .before .before .loop .i) (c .before .before .before .before .look .result) d (End _) (c .before .before .looked5 .given .1) in omega (arith, d .safe-now, f .1 .begun)
 
--- src/charstring.rt:152:71
 run-add-t86 : (t : ℕ) → Of run-lts.Need-add-t86 t
 run-add-t86 t c = let d = head t (c .before .before .before .before .before .before .before) in let f = asks (c .before .before .before .before .before .before .before .before .before .before .before .before .before .before .args .cs .now) (c .before .before .before .before .before .before .before .before .before .before .before .before .before .before .args .globals .now) (c .before .before .before .before .before .before .before .before .before .before .before .before .before .before .args .locals .now) (c .before .before .before .before .before .before .before .before .before .before .before .before .before .before .args .by) (c .before .before .before .before .before .before .before .before .before .before .before .before .before .before .args .levels) (c .before .before .before .before .before .before .before .before .before .before .before .before .before .before .args .s) (c .before .before .before .before .before .before .before .before .before .before .before .before .before .before .args .stack .now) (c .before .before .before .before .before .before .before .before .before .before .before .before .before .before .args .out .now) (c .before .before .before .before .before .before .before .before .loop .stack) (c .before .before .before .before .before .before .before .before .loop .out) (record { count = c .before .before .before .before .before .before .before .before .loop .count; tail = c .before .before .before .before .before .before .before .before .loop .tail; hints = c .before .before .before .before .before .before .before .before .loop .hints; mask = c .before .before .before .before .before .before .before .before .loop .mask; tokens = c .before .before .before .before .before .before .before .before .loop .tokens; length = c .before .before .before .before .before .before .before .before .loop .end }) (c .before .before .before .before .before .before .before .before .loop .i) (c .before .before .before .before .before .before .before .look .result) d (End _) (c .before .before .before .before .before .looked5 .given .1) in omega (arith, f .1 .begun)
 
--- src/charstring.rt:153:17
 run-same-length-9 : (t : ℕ) → Of run-lts.Need-same-length-9 t
 run-same-length-9 t c = c .before .before .before .before .before .before .before .before .loop .inv .0
 
--- src/charstring.rt:153:17
 run-same-length-10 : (t : ℕ) → Of run-lts.Need-same-length-10 t
 run-same-length-10 t c = c .before .before .put-operator3 .kept .0 ∙ c .before .before .before .before .before .before .before .before .loop .inv .1
 
--- src/charstring.rt:153:17
 run-returns-5 : (t : ℕ) → Of run-lts.Need-returns-5 t
 unfolding RunsTo
 run-returns-5 t c = let d = head t (c .before .before .before .before .before .before .before) in let f = asks (c .before .before .before .before .before .before .before .before .before .before .before .before .before .before .args .cs .now) (c .before .before .before .before .before .before .before .before .before .before .before .before .before .before .args .globals .now) (c .before .before .before .before .before .before .before .before .before .before .before .before .before .before .args .locals .now) (c .before .before .before .before .before .before .before .before .before .before .before .before .before .before .args .by) (c .before .before .before .before .before .before .before .before .before .before .before .before .before .before .args .levels) (c .before .before .before .before .before .before .before .before .before .before .before .before .before .before .args .s) (c .before .before .before .before .before .before .before .before .before .before .before .before .before .before .args .stack .now) (c .before .before .before .before .before .before .before .before .before .before .before .before .before .before .args .out .now) (c .before .before .before .before .before .before .before .before .loop .stack) (c .before .before .before .before .before .before .before .before .loop .out) (record { count = c .before .before .before .before .before .before .before .before .loop .count; tail = c .before .before .before .before .before .before .before .before .loop .tail; hints = c .before .before .before .before .before .before .before .before .loop .hints; mask = c .before .before .before .before .before .before .before .before .loop .mask; tokens = c .before .before .before .before .before .before .before .before .loop .tokens; length = c .before .before .before .before .before .before .before .before .loop .end }) (c .before .before .before .before .before .before .before .before .loop .i) (c .before .before .before .before .before .before .before .look .result) d (End _) (c .before .before .before .before .before .looked5 .given .1) in arm-end (c .before .before .before .before .before .before .before .before .before .before .before .before .before .before .args .cs .now) (c .before .before .before .before .before .before .before .before .before .before .before .before .before .before .args .globals .now) (c .before .before .before .before .before .before .before .before .before .before .before .before .before .before .args .locals .now) (c .before .before .before .before .before .before .before .before .before .before .before .before .before .before .args .by) (c .before .before .before .before .before .before .before .before .before .before .before .before .before .before .args .levels) (c .before .before .before .before .before .before .before .before .before .before .before .before .before .before .args .s) (c .before .before .before .before .before .before .before .before .before .before .before .before .before .before .args .stack .now) (c .before .before .before .before .before .before .before .before .before .before .before .before .before .before .args .out .now) (c .before .before .before .before .before .before .before .before .loop .stack) (c .before .before .before .before .before .before .before .before .loop .out) (record { count = c .before .before .before .before .before .before .before .before .loop .count; tail = c .before .before .before .before .before .before .before .before .loop .tail; hints = c .before .before .before .before .before .before .before .before .loop .hints; mask = c .before .before .before .before .before .before .before .before .loop .mask; tokens = c .before .before .before .before .before .before .before .before .loop .tokens; length = c .before .before .before .before .before .before .before .before .loop .end }) (c .before .before .before .before .before .before .before .before .loop .i) (d .turn) (c .before .before .before .before .before .looked5 .given .0 .0) _ _ f (c .before .before .put-operator3 .ensures .1) refl (c .before .before .put-operator3 .ensures .0)
 
--- src/charstring.rt:156:21
 run-enum-told-5 : (t : ℕ) → Of run-lts.Need-enum-told-5 t
 run-enum-told-5 t c = search needs
 
--- src/charstring.rt:157:17
 run-same-length-11 : (t : ℕ) → Of run-lts.Need-same-length-11 t
 run-same-length-11 t c = c .before .before .before .loop .inv .0
 
--- src/charstring.rt:157:17
 run-same-length-12 : (t : ℕ) → Of run-lts.Need-same-length-12 t
 run-same-length-12 t c = c .before .before .before .loop .inv .1
 
--- src/charstring.rt:157:17
 run-returns-6 : (t : ℕ) → Of run-lts.Need-returns-6 t
 unfolding RunsTo
 run-returns-6 t c = let d = head t (c .before .before) in let f = asks (c .before .before .before .before .before .before .before .before .before .args .cs .now) (c .before .before .before .before .before .before .before .before .before .args .globals .now) (c .before .before .before .before .before .before .before .before .before .args .locals .now) (c .before .before .before .before .before .before .before .before .before .args .by) (c .before .before .before .before .before .before .before .before .before .args .levels) (c .before .before .before .before .before .before .before .before .before .args .s) (c .before .before .before .before .before .before .before .before .before .args .stack .now) (c .before .before .before .before .before .before .before .before .before .args .out .now) (c .before .before .before .loop .stack) (c .before .before .before .loop .out) (record { count = c .before .before .before .loop .count; tail = c .before .before .before .loop .tail; hints = c .before .before .before .loop .hints; mask = c .before .before .before .loop .mask; tokens = c .before .before .before .loop .tokens; length = c .before .before .before .loop .end }) (c .before .before .before .loop .i) (c .before .before .look .result) d Empty (c .enum-told5 .given .1) in arm-out (c .before .before .before .before .before .before .before .before .before .args .cs .now) (c .before .before .before .before .before .before .before .before .before .args .globals .now) (c .before .before .before .before .before .before .before .before .before .args .locals .now) (c .before .before .before .before .before .before .before .before .before .args .by) (c .before .before .before .before .before .before .before .before .before .args .levels) (c .before .before .before .before .before .before .before .before .before .args .s) (c .before .before .before .before .before .before .before .before .before .args .stack .now) (c .before .before .before .before .before .before .before .before .before .args .out .now) (c .before .before .before .loop .stack) (c .before .before .before .loop .out) (record { count = c .before .before .before .loop .count; tail = c .before .before .before .loop .tail; hints = c .before .before .before .loop .hints; mask = c .before .before .before .loop .mask; tokens = c .before .before .before .loop .tokens; length = c .before .before .before .loop .end }) (c .before .before .before .loop .i) (d .turn) f
 
--- src/charstring.rt:159:26
 run-enum-known-looked-6 : (t : ℕ) → Of run-lts.Need-enum-known-looked-6 t
 run-enum-known-looked-6 t c = search needs
 
--- src/charstring.rt:161:17
 run-same-length-13 : (t : ℕ) → Of run-lts.Need-same-length-13 t
 run-same-length-13 t c = c .before .before .before .before .loop .inv .0
 
--- src/charstring.rt:161:17
 run-same-length-14 : (t : ℕ) → Of run-lts.Need-same-length-14 t
 run-same-length-14 t c = c .before .before .before .before .loop .inv .1
 
--- src/charstring.rt:161:17
 run-returns-7 : (t : ℕ) → Of run-lts.Need-returns-7 t
 unfolding RunsTo
 run-returns-7 t c = let d = head t (c .before .before .before) in let f = asks (c .before .before .before .before .before .before .before .before .before .before .args .cs .now) (c .before .before .before .before .before .before .before .before .before .before .args .globals .now) (c .before .before .before .before .before .before .before .before .before .before .args .locals .now) (c .before .before .before .before .before .before .before .before .before .before .args .by) (c .before .before .before .before .before .before .before .before .before .before .args .levels) (c .before .before .before .before .before .before .before .before .before .before .args .s) (c .before .before .before .before .before .before .before .before .before .before .args .stack .now) (c .before .before .before .before .before .before .before .before .before .before .args .out .now) (c .before .before .before .before .loop .stack) (c .before .before .before .before .loop .out) (record { count = c .before .before .before .before .loop .count; tail = c .before .before .before .before .loop .tail; hints = c .before .before .before .before .loop .hints; mask = c .before .before .before .before .loop .mask; tokens = c .before .before .before .before .loop .tokens; length = c .before .before .before .before .loop .end }) (c .before .before .before .before .loop .i) (c .before .before .before .look .result) d (Bad _) (c .before .looked6 .given .1) in arm-bad (c .before .before .before .before .before .before .before .before .before .before .args .cs .now) (c .before .before .before .before .before .before .before .before .before .before .args .globals .now) (c .before .before .before .before .before .before .before .before .before .before .args .locals .now) (c .before .before .before .before .before .before .before .before .before .before .args .by) (c .before .before .before .before .before .before .before .before .before .before .args .levels) (c .before .before .before .before .before .before .before .before .before .before .args .s) (c .before .before .before .before .before .before .before .before .before .before .args .stack .now) (c .before .before .before .before .before .before .before .before .before .before .args .out .now) (c .before .before .before .before .loop .stack) (c .before .before .before .before .loop .out) (record { count = c .before .before .before .before .loop .count; tail = c .before .before .before .before .loop .tail; hints = c .before .before .before .before .loop .hints; mask = c .before .before .before .before .loop .mask; tokens = c .before .before .before .before .loop .tokens; length = c .before .before .before .before .loop .end }) (c .before .before .before .before .loop .i) (d .turn) _ f

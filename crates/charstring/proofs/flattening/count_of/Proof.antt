@@ -2,19 +2,15 @@ use Rattle.reading.specs.Lists.{countIn}
 use Rattle.index.proofs.read.IndexRead as index-type
 use Rattle.index.specs.declared.read.IndexRead.the-variants.{Read, Lacking, BadSize}
 use Rattle.index.specs.declared.read.IndexRead.{IndexRead}
-use Rattle.index.specs.Index.{Extent, indexRead, extent}
+use Rattle.index.specs.Index.{Extent, indexRead}
 use Rattle.number.specs.Answer.{Answer}
 use denote.Enum.Declared.{tagOf}
 use types.Run.{OneOf, miss}
-use Prim.Native.Nat.{ℕ}
-use mathlib.Core.List.{List, [], _∷_}
-use mathlib.Core.Path.{_≡_, refl, sym, ap, _∙_}
+use mathlib.Core.List.{[], _∷_}
+use mathlib.Core.Path.{_≡_, sym, ap, _∙_}
 use borrow.Author.Needs.{needs}
 use Rattle.charstring.proofs.flattening.count_of.Statement.{statement}
 use Rattle.charstring.proofs.flattening.count_of.Tie as tie
-use Rattle.charstring.proofs.flattening.count_of.Reads as reads
-use Rattle.charstring.proofs.flattening.count_of.Lts as lts
-use Rattle.index.proofs.read_index.Reads as read-index-reads
 
 -- what cannot be read has no entries
 none-there : (x : Answer Extent) (r : IndexRead) → OneOf (1 ∷ 2 ∷ []) (tagOf index-type.the-type r) → indexRead r ≡ x → 0 ≡ countIn x
@@ -23,19 +19,15 @@ none-there x (Read n t) k e = absurd (miss (1 ∷ 2 ∷ []) 0 tt k)
 none-there x Lacking k e = ap countIn e
 none-there x BadSize k e = ap countIn e
 
--- src/flattening.rt:148:37
 read-index-requires : tie.Need-read-index-requires
 read-index-requires c κs = search needs
 
--- src/flattening.rt:148:25
 enum-known-count : tie.Need-enum-known-count
 enum-known-count c = search needs
 
--- src/flattening.rt:149:9
 returns : tie.Need-returns
 returns c = none-there _ (c .before .read-index .result) (c .match .keys2) (c .before .read-index .ensures)
 
--- src/flattening.rt:145:1
 returns-2 : tie.Need-returns-2
 unfolding countIn
 returns-2 c = ap (λ (r : IndexRead). countIn (indexRead r)) (sym (c .before .count .given .1)) ∙ ap countIn (c .before .before .before .read-index .ensures)

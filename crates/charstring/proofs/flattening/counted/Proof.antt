@@ -6,14 +6,12 @@ use Rattle.reading.specs.Answers.{numberOf}
 use Rattle.reading.specs.Reading.{tokensBy, stopped}
 use denote.Enum.Declared.{tagOf}
 use types.Run.{OneOf, miss}
-use Prim.Native.Nat.{ℕ, _+_, _<_}
+use Prim.Native.Nat.{ℕ, _+_}
 use mathlib.Core.List.{List, [], _∷_}
-use mathlib.Core.Path.{_≡_, refl, sym, ap, subst}
+use mathlib.Core.Path.{_≡_, refl, sym, ap}
 use borrow.Author.Needs.{needs}
 use Rattle.charstring.proofs.flattening.counted.Statement.{statement}
 use Rattle.charstring.proofs.flattening.counted.Tie as tie
-use Rattle.charstring.proofs.flattening.counted.Reads as reads
-use Rattle.charstring.proofs.flattening.counted.Lts as lts
 
 -- any refusal but 3 counts its token
 abbrev Others : List ℕ
@@ -32,20 +30,16 @@ another tokens TooDeep h = refl
 another tokens TooManyHints h = refl
 another tokens Composite h = refl
 
--- src/flattening.rt:160:9
 enum-told : tie.Need-enum-told
 enum-told c = search needs
 
--- src/flattening.rt:160:9
 returns : tie.Need-returns
 unfolding tokensBy
 returns c = ap (λ (k : Refusal). tokensBy (c .before .before .args .tokens) (stopped (numberOf k))) (sym (c .enum-told .given .1))
 
--- src/flattening.rt:162:5
 add-result : tie.Need-add-result
 add-result c = let h = another (c .before .args .tokens) (c .before .args .k) (c .match .keys2) in let p = c .before .pre in omega (arith, h, p)
 
--- src/flattening.rt:155:1
 returns-2 : tie.Need-returns-2
 returns-2 c = another (c .before .args .tokens) (c .before .args .k) (c .match .keys2)
 

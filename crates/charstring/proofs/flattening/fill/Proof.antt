@@ -1,41 +1,27 @@
 use Rattle.charstring.specs.VerdictLaws.{ready, done, filled-by}
-use Prim.Native.Nat.{ℕ, zero-le}
 use mathlib.Core.Path.{refl}
 use borrow.Author.Needs.{needs}
 use Rattle.charstring.proofs.flattening.fill.Statement.{statement}
 use Rattle.charstring.proofs.flattening.fill.Tie as tie
-use Rattle.charstring.proofs.flattening.fill.Reads as reads
-use Rattle.charstring.proofs.flattening.fill.Lts as lts
-use Rattle.charstring.proofs.charstring.run.Reads as run-reads
-use Rattle.charstring.proofs.flattening.begun.Reads as begun-reads
-use Rattle.charstring.proofs.flattening.levels_of.Reads as levels-of-reads
-use Rattle.charstring.proofs.flattening.limits_of.Reads as limits-of-reads
 
--- src/flattening.rt:91:9
 limits-of-requires : tie.Need-limits-of-requires
 limits-of-requires c κs = search needs
 
--- src/flattening.rt:93:34
 begun-requires : tie.Need-begun-requires
 begun-requires c κs = search needs
 
--- src/flattening.rt:93:43
 slice-aggregate-run : tie.Need-slice-aggregate-run
 slice-aggregate-run c = search needs
 
--- src/flattening.rt:93:60
 levels-of-requires : tie.Need-levels-of-requires
 levels-of-requires c κs = search needs
 
--- src/flattening.rt:93:5
 run-requires : tie.Need-run-requires
 run-requires c κs = ready (c .before .before .before .before .before .before .before .before .before .args .profile) (c .before .before .before .before .before .before .before .before .before .args .n) _ _ refl _ _ (c .before .before .before .before .before .before .before .before .before .args .budget) _ _ (c .before .before .before .begun .ensures) (c .before .before .before .before .limits-of .ensures) (c .before .before .before .before .before .before .before .before .before .pre .fits)
 
--- src/flattening.rt:79:1
 same-length : tie.Need-same-length
 same-length c = search needs
 
--- src/flattening.rt:79:1
 returns : tie.Need-returns
 returns c = filled-by _ (c .before .before .before .before .before .before .before .before .before .before .before .before .before .args .n) _ _ _ _ _ (done (c .before .before .before .before .before .before .before .before .before .before .before .before .before .args .profile) (c .before .before .before .before .before .before .before .before .before .before .before .before .before .args .n) _ _ refl _ _ (c .before .before .before .before .before .before .before .before .before .before .before .before .before .args .budget) _ _ (c .before .before .before .before .before .before .before .begun .ensures) (c .before .before .before .before .before .before .before .before .limits-of .ensures) _ _ _ _ _ (c .before .before .before .before .levels-of .ensures) (c .before .before .before .run .ensures)) (c .before .before .before .before .before .before .before .before .before .before .before .before .before .pre) (c .before .before .before .run .kept .1 .1 .1 .1 .1 .1 .0)
 

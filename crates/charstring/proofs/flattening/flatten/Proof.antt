@@ -4,20 +4,16 @@ use Rattle.reading.specs.Answers.{Outcome, listGate, flattening}
 use Rattle.index.proofs.list.Formed as formed-type
 use Rattle.index.specs.declared.list.Formed.the-variants.{Yes, Lacking, BadSize, Emptied, Bad}
 use Rattle.index.specs.declared.list.Formed.{Formed}
-use Rattle.index.specs.Formed.{Formation, formation, formed}
+use Rattle.index.specs.Formed.{Formation, formed}
 use Rattle.number.specs.Answer.{refused}
 use denote.Enum.Declared.{tagOf}
 use types.Run.{OneOf, miss}
 use Prim.Native.Nat.{ℕ}
 use mathlib.Core.List.{List, [], _∷_}
-use mathlib.Core.Path.{_≡_, refl, sym, ap, _∙_}
+use mathlib.Core.Path.{_≡_, sym, ap, _∙_}
 use borrow.Author.Needs.{needs}
 use Rattle.charstring.proofs.flattening.flatten.Statement.{statement}
 use Rattle.charstring.proofs.flattening.flatten.Tie as tie
-use Rattle.charstring.proofs.flattening.flatten.Reads as reads
-use Rattle.charstring.proofs.flattening.flatten.Lts as lts
-use Rattle.charstring.proofs.flattening.write.Reads as write-reads
-use Rattle.index.proofs.well_formed.Reads as well-formed-reads
 
 -- a list that is not well formed, by each of its reasons
 shut : (k : ℕ) (out : List ℕ) (f : Formation) (then : Outcome) (r : Formed) → OneOf (1 ∷ 2 ∷ 3 ∷ 4 ∷ []) (tagOf formed-type.the-type r) → formed r ≡ f
@@ -36,39 +32,32 @@ opened k out f then BadSize h e = absurd (miss (0 ∷ []) 2 tt h)
 opened k out f then Emptied h e = absurd (miss (0 ∷ []) 3 tt h)
 opened k out f then (Bad i) h e = absurd (miss (0 ∷ []) 4 tt h)
 
--- src/flattening.rt:43:26
 well-formed-requires : tie.Need-well-formed-requires
 well-formed-requires c κs = search needs
 
 enum-told : tie.Need-enum-told
 enum-told c = search needs
 
--- src/flattening.rt:44:9
 returns : tie.Need-returns
 unfolding flattening
 returns c = shut 1 _ _ _ (c .before .well-formed .result) (c .match .keys2) (c .before .well-formed .ensures)
 
--- src/flattening.rt:46:26
 well-formed-requires-2 : tie.Need-well-formed-requires-2
 well-formed-requires-2 c κs = search needs
 
 enum-told-2 : tie.Need-enum-told-2
 enum-told-2 c = search needs
 
--- src/flattening.rt:47:9
 returns-2 : tie.Need-returns-2
 unfolding flattening
 returns-2 c = shut 2 _ _ _ (c .before .well-formed2 .result) (c .match2 .keys2) (c .before .well-formed2 .ensures) ∙ opened 1 _ _ _ (c .before .before .before .before .well-formed .result) (c .before .before .before .match .keys1) (c .before .before .before .before .well-formed .ensures)
 
--- src/flattening.rt:49:5
 write-requires : tie.Need-write-requires
 write-requires c κs = search needs
 
--- src/flattening.rt:33:1
 same-length : tie.Need-same-length
 same-length c = search needs
 
--- src/flattening.rt:33:1
 returns-3 : tie.Need-returns-3
 unfolding flattening
 returns-3 c = c .before .before .write .ensures ∙ opened 2 _ _ _ (c .before .before .before .before .before .before .well-formed2 .result) (c .before .before .before .before .before .match2 .keys1) (c .before .before .before .before .before .before .well-formed2 .ensures) ∙ opened 1 _ _ _ (c .before .before .before .before .before .before .before .before .before .well-formed .result) (c .before .before .before .before .before .before .before .before .match .keys1) (c .before .before .before .before .before .before .before .before .before .well-formed .ensures)

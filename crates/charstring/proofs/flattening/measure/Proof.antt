@@ -1,69 +1,47 @@
 use Rattle.charstring.specs.VerdictLaws.{ready, done, came-back, all-ended, was-stopped, few-tokens}
-use Rattle.charstring.specs.Run.{Done}
 use Rattle.reading.specs.BudgetLaws.{tokens-budget}
-use Rattle.reading.specs.Reading.{Run}
-use Prim.Native.Nat.{ℕ, zero-le}
-use mathlib.Core.Path.{refl, sym}
+use Prim.Native.Nat.{zero-le}
+use mathlib.Core.Path.{refl}
 use borrow.Author.Needs.{needs}
 use Rattle.charstring.proofs.flattening.measure.Statement.{statement}
 use Rattle.charstring.proofs.flattening.measure.Tie as tie
-use Rattle.charstring.proofs.flattening.measure.Reads as reads
-use Rattle.charstring.proofs.flattening.measure.Lts as lts
-use Rattle.charstring.proofs.charstring.run.Reads as run-reads
-use Rattle.charstring.proofs.flattening.begun.Reads as begun-reads
-use Rattle.charstring.proofs.flattening.counted.Reads as counted-reads
-use Rattle.charstring.proofs.flattening.levels_of.Reads as levels-of-reads
-use Rattle.charstring.proofs.flattening.limits_of.Reads as limits-of-reads
 
--- src/flattening.rt:65:9
 limits-of-requires : tie.Need-limits-of-requires
 limits-of-requires c κs = search needs
 
--- src/flattening.rt:68:42
 begun-requires : tie.Need-begun-requires
 begun-requires c κs = search needs
 
--- src/flattening.rt:68:51
 slice-aggregate-run : tie.Need-slice-aggregate-run
 slice-aggregate-run c = search needs
 
--- src/flattening.rt:68:63
 slice-aggregate-run-2 : tie.Need-slice-aggregate-run-2
 slice-aggregate-run-2 c = search needs
 
--- src/flattening.rt:68:74
 levels-of-requires : tie.Need-levels-of-requires
 levels-of-requires c κs = search needs
 
--- src/flattening.rt:68:9
 run-requires : tie.Need-run-requires
 run-requires c κs = ready (c .before .before .before .before .before .before .before .before .args .profile) 0 _ _ refl _ _ (c .before .before .before .before .before .before .before .before .args .budget) _ _ (c .before .before .before .begun .ensures) (c .before .before .before .before .limits-of .ensures) zero-le
 
--- src/flattening.rt:72:25
 enum-told : tie.Need-enum-told
 enum-told c = search needs
 
--- src/flattening.rt:73:26
 enum-told-2 : tie.Need-enum-told-2
 enum-told-2 c = search needs
 
--- src/flattening.rt:74:25
 enum-known-how : tie.Need-enum-known-how
 enum-known-how c = search needs
 
--- src/flattening.rt:74:52
 counted-requires : tie.Need-counted-requires
 counted-requires c κs = few-tokens _ 0 _ _ _ _ _ (done (c .before .before .before .before .before .before .before .before .before .before .before .before .before .before .before .args .profile) 0 _ _ refl _ _ (c .before .before .before .before .before .before .before .before .before .before .before .before .before .before .before .args .budget) _ _ (c .before .before .before .before .before .before .before .before .before .before .begun .ensures) (c .before .before .before .before .before .before .before .before .before .before .before .limits-of .ensures) _ _ _ _ _ (c .before .before .before .before .before .before .before .levels-of .ensures) (c .before .before .before .before .before .before .run .ensures)) _ (c .before .how .given .1) (c .before .before .before .before .before .before .before .before .before .before .before .before .before .before .before .args .budget) (tokens-budget _ _ _ _) (c .before .before .before .before .before .before .before .before .before .before .before .before .before .before .before .fits .budget .fits)
 
--- src/flattening.rt:62:1
 returns : tie.Need-returns
 returns c = came-back _ 0 _ _ _ _ _ (done (c .before .before .before .before .before .before .before .before .before .before .before .before .before .before .args .profile) 0 _ _ refl _ _ (c .before .before .before .before .before .before .before .before .before .before .before .before .before .before .args .budget) _ _ (c .before .before .before .before .before .before .before .before .before .begun .ensures) (c .before .before .before .before .before .before .before .before .before .before .limits-of .ensures) _ _ _ _ _ (c .before .before .before .before .before .before .levels-of .ensures) (c .before .before .before .before .before .run .ensures)) (c .enum-told .given .1)
 
--- src/flattening.rt:62:1
 returns-2 : tie.Need-returns-2
 returns-2 c = all-ended _ 0 _ _ _ _ _ (done (c .before .before .before .before .before .before .before .before .before .before .before .before .before .before .args .profile) 0 _ _ refl _ _ (c .before .before .before .before .before .before .before .before .before .before .before .before .before .before .args .budget) _ _ (c .before .before .before .before .before .before .before .before .before .begun .ensures) (c .before .before .before .before .before .before .before .before .before .before .limits-of .ensures) _ _ _ _ _ (c .before .before .before .before .before .before .levels-of .ensures) (c .before .before .before .before .before .run .ensures)) (c .enum-told2 .given .1)
 
--- src/flattening.rt:62:1
 returns-3 : tie.Need-returns-3
 returns-3 c = was-stopped _ 0 _ _ _ _ _ (done (c .before .before .before .before .before .before .before .before .before .before .before .before .before .before .before .before .args .profile) 0 _ _ refl _ _ (c .before .before .before .before .before .before .before .before .before .before .before .before .before .before .before .before .args .budget) _ _ (c .before .before .before .before .before .before .before .before .before .before .before .begun .ensures) (c .before .before .before .before .before .before .before .before .before .before .before .before .limits-of .ensures) _ _ _ _ _ (c .before .before .before .before .before .before .before .before .levels-of .ensures) (c .before .before .before .before .before .before .before .run .ensures)) _ (c .before .before .how .given .1) _ (c .counted .ensures)
 

@@ -5,85 +5,61 @@ use native.Mathlib.Omega.{arith}
 use borrow.Author.Needs.{needs}
 use Rattle.charstring.proofs.look.ask.Statement.{statement}
 use Rattle.charstring.proofs.look.ask.Tie as tie
-use Rattle.charstring.proofs.look.ask.Reads as reads
-use Rattle.charstring.proofs.look.ask.Lts as lts
-use Rattle.charstring.proofs.look.ask_mask.Reads as ask-mask-reads
-use Rattle.charstring.proofs.look.ask_stem.Reads as ask-stem-reads
-use Rattle.charstring.proofs.operator.kind_of.Reads as kind-of-reads
 
--- src/look.rt:70:11
 kind-of-requires : tie.Need-kind-of-requires
 kind-of-requires c κs = search needs
 
--- src/look.rt:71:23
 enum-told : tie.Need-enum-told
 enum-told c = search needs
 
--- src/look.rt:71:23
 ask-stem-requires : tie.Need-ask-stem-requires
 ask-stem-requires c κs = (search needs, sym (c .before .before .kind-of .ensures) ∙ c .enum-told .given .1)
 
--- src/look.rt:72:24
 enum-told-2 : tie.Need-enum-told-2
 enum-told-2 c = search needs
 
--- src/look.rt:73:23
 enum-told-3 : tie.Need-enum-told-3
 enum-told-3 c = search needs
 
--- src/look.rt:73:23
 ask-mask-requires : tie.Need-ask-mask-requires
 ask-mask-requires c κs = (search needs, sym (c .before .before .kind-of .ensures) ∙ c .enum-told3 .given .1)
 
--- src/look.rt:74:20
 enum-known-which : tie.Need-enum-known-which
 enum-known-which c = search needs
 
--- src/look.rt:76:17
 returns : tie.Need-returns
 returns c = no-index _ _ _ _ _ _ _ (c .before .before .which .given .0 .0) (sym (c .before .before .before .before .kind-of .ensures) ∙ c .before .before .which .given .1) (omega arith)
 
--- src/look.rt:80:25
 enum-told-4 : tie.Need-enum-told-4
 enum-told-4 c = search needs
 
--- src/look.rt:82:16
 enum-told-5 : tie.Need-enum-told-5
 enum-told-5 c = search needs
 
--- src/look.rt:83:17
 returns-2 : tie.Need-returns-2
 returns-2 c = composite _ _ _ _ _ _ _ (sym (c .before .before .before .kind-of .ensures) ∙ c .before .enum-told5 .given .1) (omega arith)
 
--- src/look.rt:87:39
 enum-told-6 : tie.Need-enum-told-6
 enum-told-6 c = search needs
 
--- src/look.rt:66:1
 returns-3 : tie.Need-returns-3
 returns-3 c = search needs
 
--- src/look.rt:66:1
 returns-4 : tie.Need-returns-4
 returns-4 c = (refl, refl, clears (sym (c .before .before .kind-of .ensures) ∙ c .enum-told2 .given .1) refl)
 
--- src/look.rt:66:1
 returns-5 : tie.Need-returns-5
 returns-5 c = search needs
 
--- src/look.rt:66:1
 returns-6 : tie.Need-returns-6
 returns-6 c = (refl, sym (c .before .before .before .before .kind-of .ensures) ∙ c .before .before .which .given .1, omega arith)
 
--- src/look.rt:66:1
 returns-7 : tie.Need-returns-7
 returns-7 c = sym (c .before .before .kind-of .ensures) ∙ c .enum-told4 .given .1
 
--- src/look.rt:66:1
 returns-8 : tie.Need-returns-8
 returns-8 c = (refl, sym (c .before .before .before .kind-of .ensures) ∙ c .before .enum-told5 .given .1, omega arith)
 
--- src/look.rt:66:1
 returns-9 : tie.Need-returns-9
 returns-9 c = unknown _ _ _ _ _ _ _ (sym (c .before .before .kind-of .ensures) ∙ c .enum-told6 .given .1)
 

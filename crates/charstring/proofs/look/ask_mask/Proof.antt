@@ -6,54 +6,40 @@ use native.Mathlib.Omega.{arith}
 use borrow.Author.Needs.{needs}
 use Rattle.charstring.proofs.look.ask_mask.Statement.{statement}
 use Rattle.charstring.proofs.look.ask_mask.Tie as tie
-use Rattle.charstring.proofs.look.ask_mask.Reads as reads
-use Rattle.charstring.proofs.look.ask_mask.Lts as lts
 
--- src/look.rt:112:13
 returns : tie.Need-returns
 returns c = later-many _ _ _ _ _ _ _ (c .before .before .pre .1) (λ z. omega arith) (omega arith)
 
--- src/look.rt:114:12
 sub-if3 : tie.Need-sub-if3
 sub-if3 c = search needs
 
--- src/look.rt:115:13
 returns-2 : tie.Need-returns-2
 returns-2 c = later-lacks _ _ _ _ _ _ _ (c .before .before .before .pre .1) (λ z. omega arith) (omega arith) (omega arith)
 
--- src/look.rt:117:39
 add-t13 : tie.Need-add-t13
 add-t13 c = search needs
 
--- src/look.rt:117:9
 returns-3 : tie.Need-returns-3
 returns-3 c = (refl, refl, c .before .before .before .pre .1, omega arith, omega arith, omega arith, later (λ z. omega arith) refl refl (add-sub-cancel-left _ _))
 
--- src/look.rt:119:13
 add-h : tie.Need-add-h
 add-h c = search needs
 
--- src/look.rt:121:9
 returns-4 : tie.Need-returns-4
 returns-4 c = first-many _ _ _ _ _ _ _ (c .before .before .pre .1) (omega arith) (omega arith)
 
--- src/look.rt:123:14
 add-m : tie.Need-add-m
 add-m c = search needs
 
--- src/look.rt:124:8
 sub-if5 : tie.Need-sub-if5
 sub-if5 c = search needs
 
--- src/look.rt:125:9
 returns-5 : tie.Need-returns-5
 returns-5 c = first-lacks _ _ _ _ _ _ _ (c .before .before .before .pre .1) (omega arith) (omega arith) (omega arith)
 
--- src/look.rt:127:28
 add-t15 : tie.Need-add-t15
 add-t15 c = search needs
 
--- src/look.rt:105:1
 returns-6 : tie.Need-returns-6
 returns-6 c = (refl, refl, c .before .before .before .pre .1, omega arith, omega arith, omega arith, first (omega arith) refl refl (add-sub-cancel-left _ _))
 

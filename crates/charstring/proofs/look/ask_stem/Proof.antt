@@ -5,18 +5,13 @@ use native.Mathlib.Omega.{arith}
 use borrow.Author.Needs.{needs}
 use Rattle.charstring.proofs.look.ask_stem.Statement.{statement}
 use Rattle.charstring.proofs.look.ask_stem.Tie as tie
-use Rattle.charstring.proofs.look.ask_stem.Reads as reads
-use Rattle.charstring.proofs.look.ask_stem.Lts as lts
 
--- src/look.rt:97:13
 add-h : tie.Need-add-h
 add-h c = search needs
 
--- src/look.rt:99:9
 returns : tie.Need-returns
 returns c = many-stems _ _ _ _ _ _ _ (c .before .pre .1) (omega arith)
 
--- src/look.rt:92:1
 returns-2 : tie.Need-returns-2
 returns-2 c = (refl, refl, counts (c .before .pre .1) refl (omega arith))
 

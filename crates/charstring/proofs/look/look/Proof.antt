@@ -1,20 +1,13 @@
-use Rattle.charstring.specs.declared.token.Token.{Token}
 use Rattle.charstring.specs.LookLaws.{spends, lacks, full, asked}
 use Rattle.charstring.specs.Words.{cutOf, Ahead}
 use Rattle.reading.specs.Tokens.{number, operator, token, cut}
-use Rattle.reading.specs.declared.Operator.{Operator}
-use Rattle.number.specs.declared.Operand.{Operand}
 use lib.ListN.{length, drop}
-use Prim.Native.Nat.{ℕ, _<_, _≤_}
-use mathlib.Core.Path.{_≡_, refl, sym, ap, subst, _∙_}
+use Prim.Native.Nat.{_<_, _≤_}
+use mathlib.Core.Path.{_≡_, sym, ap, subst, _∙_}
 use native.Mathlib.Omega.{arith}
 use borrow.Author.Needs.{needs}
 use Rattle.charstring.proofs.look.look.Statement.{statement}
 use Rattle.charstring.proofs.look.look.Tie as tie
-use Rattle.charstring.proofs.look.look.Reads as reads
-use Rattle.charstring.proofs.look.look.Lts as lts
-use Rattle.charstring.proofs.look.ask.Reads as ask-reads
-use Rattle.charstring.proofs.token.token_at.Reads as token-at-reads
 
 -- where a number is bound, and where an operator is
 number-cut : (c : tie.After-o) → token (number (c .o .given .0 .0)) (drop (c .o .given .0 .1 .0) (c .before .before .before .before .before .before .args .cs .now)) ≡ cut (drop (c .before .before .before .before .before .before .args .i) (c .before .before .before .before .before .before .args .cs .now))
@@ -29,47 +22,36 @@ operator-cut c = ap (cutOf (c .before .before .before .before .before .before .a
 operator-ahead : (c : tie.After-p) → (c .before .before .before .before .before .before .args .i < c .p .given .0 .1 .0) × (c .p .given .0 .1 .0 ≤ length (c .before .before .before .before .before .before .args .cs .now))
 operator-ahead c = subst (Ahead (c .before .before .before .before .before .before .args .i) (length (c .before .before .before .before .before .before .args .cs .now))) (c .p .given .1) (c .before .before .token-at .ensures .1)
 
--- src/look.rt:48:9
 returns : tie.Need-returns
 returns c = search needs
 
--- src/look.rt:51:9
 returns-2 : tie.Need-returns-2
 returns-2 c = spends _ _ _ _ _ _ _ _ _ (omega arith) (omega arith)
 
--- src/look.rt:53:11
 token-at-requires : tie.Need-token-at-requires
 token-at-requires c κs = search needs
 
--- src/look.rt:54:40
 enum-told : tie.Need-enum-told
 enum-told c = search needs
 
--- src/look.rt:55:23
 enum-known-o : tie.Need-enum-known-o
 enum-known-o c = search needs
 
--- src/look.rt:57:17
 returns-3 : tie.Need-returns-3
 returns-3 c = full _ _ _ _ _ _ _ _ _ (omega arith) (omega arith) _ _ (number-cut (c .before .before)) (omega arith)
 
--- src/look.rt:61:25
 enum-known-p : tie.Need-enum-known-p
 enum-known-p c = search needs
 
--- src/look.rt:61:37
 ask-requires : tie.Need-ask-requires
 ask-requires c κs = let a = operator-ahead (c .before) in (search needs, search needs, a .1)
 
--- src/look.rt:33:1
 returns-4 : tie.Need-returns-4
 returns-4 c = lacks _ _ _ _ _ _ _ _ _ (omega arith) (omega arith) (ap (cutOf (c .before .before .before .before .before .before .args .cs .now)) (sym (c .enum-told .given .1)) ∙ c .before .before .token-at .ensures .0)
 
--- src/look.rt:33:1
 returns-5 : tie.Need-returns-5
 returns-5 c = let a = number-ahead (c .before .before) in (record { ahead = a .0; inside = a .1; within = omega arith }, sym (number-cut (c .before .before)), omega arith)
 
--- src/look.rt:33:1
 returns-6 : tie.Need-returns-6
 returns-6 c = let a = operator-ahead (c .before .before) in let g = c .before .before .before .before .before .before .before .before .args in asked (g .cs .now) (g .i) (g .budget) (g .operands) (g .limit) (g .tokens) (g .count) (g .hints) (g .mask) (omega arith) (omega arith) (c .before .before .p .given .0 .0) (c .before .before .p .given .0 .1 .0) (operator-cut (c .before .before)) (a .0) (a .1) (c .ask .result) (c .ask .ensures)
 

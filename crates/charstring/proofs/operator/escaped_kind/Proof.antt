@@ -2,18 +2,13 @@ use native.Mathlib.Omega.{arith}
 use Rattle.charstring.proofs.Operators.{is-flex, no-flex}
 use Rattle.charstring.proofs.operator.escaped_kind.Statement.{statement}
 use Rattle.charstring.proofs.operator.escaped_kind.Tie as tie
-use Rattle.charstring.proofs.operator.escaped_kind.Reads as reads
-use Rattle.charstring.proofs.operator.escaped_kind.Lts as lts
 
--- src/operator.rt:75:1
 returns : tie.Need-returns
 returns c = is-flex _ (omega arith) (omega arith)
 
--- src/operator.rt:75:1
 returns-2 : tie.Need-returns-2
 returns-2 c = no-flex _ (λ e. omega arith) (λ e. omega arith) (λ e. omega arith) (λ e. omega arith)
 
--- src/operator.rt:75:1
 returns-3 : tie.Need-returns-3
 returns-3 c = no-flex _ (λ e. omega arith) (λ e. omega arith) (λ e. omega arith) (λ e. omega arith)
 

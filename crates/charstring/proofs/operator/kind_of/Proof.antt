@@ -3,24 +3,16 @@ use Rattle.charstring.proofs.Operators.{escaped-is, plain-is}
 use borrow.Author.Needs.{needs}
 use Rattle.charstring.proofs.operator.kind_of.Statement.{statement}
 use Rattle.charstring.proofs.operator.kind_of.Tie as tie
-use Rattle.charstring.proofs.operator.kind_of.Reads as reads
-use Rattle.charstring.proofs.operator.kind_of.Lts as lts
-use Rattle.charstring.proofs.operator.escaped_kind.Reads as escaped-kind-reads
-use Rattle.charstring.proofs.operator.plain_kind.Reads as plain-kind-reads
 
--- src/operator.rt:12:9
 escaped-kind-requires : tie.Need-escaped-kind-requires
 escaped-kind-requires c κs = search needs
 
--- src/operator.rt:12:9
 returns : tie.Need-returns
 returns c = c .escaped-kind .ensures ∙ escaped-is _ (search needs)
 
--- src/operator.rt:14:5
 plain-kind-requires : tie.Need-plain-kind-requires
 plain-kind-requires c κs = search needs
 
--- src/operator.rt:8:1
 returns-2 : tie.Need-returns-2
 returns-2 c = c .plain-kind .ensures ∙ plain-is _ (search needs)
 

@@ -4,46 +4,34 @@ use Rattle.charstring.proofs.Operators.{told, told-rest, past-table}
 use borrow.Author.Needs.{needs}
 use Rattle.charstring.proofs.operator.plain_kind.Statement.{statement}
 use Rattle.charstring.proofs.operator.plain_kind.Tie as tie
-use Rattle.charstring.proofs.operator.plain_kind.Reads as reads
-use Rattle.charstring.proofs.operator.plain_kind.Lts as lts
 
--- src/operator.rt:59:9
 returns : tie.Need-returns
 returns c = past-table _ (omega arith)
 
--- src/operator.rt:61:13
 array-read-k : tie.Need-array-read-k
 array-read-k c = search needs
 
--- src/operator.rt:55:1
 returns-2 : tie.Need-returns-2
 returns-2 c = told _ 1 (omega arith) (c .match .keys1)
 
--- src/operator.rt:55:1
 returns-3 : tie.Need-returns-3
 returns-3 c = told _ 2 (omega arith) (c .match .keys2)
 
--- src/operator.rt:55:1
 returns-4 : tie.Need-returns-4
 returns-4 c = told _ 3 (omega arith) (c .match .keys3)
 
--- src/operator.rt:55:1
 returns-5 : tie.Need-returns-5
 returns-5 c = told _ 4 (omega arith) (c .match .keys4)
 
--- src/operator.rt:55:1
 returns-6 : tie.Need-returns-6
 returns-6 c = told _ 5 (omega arith) (c .match .keys5)
 
--- src/operator.rt:55:1
 returns-7 : tie.Need-returns-7
 returns-7 c = told _ 6 (omega arith) (c .match .keys6)
 
--- src/operator.rt:55:1
 returns-8 : tie.Need-returns-8
 returns-8 c = told _ 7 (omega arith) (c .match .keys7)
 
--- src/operator.rt:55:1
 returns-9 : tie.Need-returns-9
 returns-9 c = let n = c .match .rest in told-rest _ _ (omega arith) refl (n .0 .0 .0 .0 .0 .0 .1) (n .0 .0 .0 .0 .0 .1) (n .0 .0 .0 .0 .1) (n .0 .0 .0 .1) (n .0 .0 .1) (n .0 .1) (n .1)
 

@@ -5,121 +5,88 @@ use Rattle.charstring.specs.Short.{low-wide, low-pair, one-byte, high-pa
 use borrow.Author.Needs.{needs}
 use Rattle.charstring.proofs.store.put_integer.Statement.{statement}
 use Rattle.charstring.proofs.store.put_integer.Tie as tie
-use Rattle.charstring.proofs.store.put_integer.Reads as reads
-use Rattle.charstring.proofs.store.put_integer.Lts as lts
-use Rattle.charstring.proofs.store.put_byte.Reads as put-byte-reads
-use Rattle.charstring.proofs.store.put_two.Reads as put-two-reads
-use Rattle.charstring.proofs.store.put_wide.Reads as put-wide-reads
 
--- src/store.rt:104:9
 put-wide-requires : tie.Need-put-wide-requires
 put-wide-requires c κs = search needs
 
--- src/store.rt:104:9
 same-length : tie.Need-same-length
 same-length c = search needs
 
--- src/store.rt:104:9
 returns : tie.Need-returns
 returns c = stored-as _ _ _ (sym (low-wide _ (omega arith))) (c .before .before .put-wide .ensures .0) (c .before .before .put-wide .ensures .1)
 
--- src/store.rt:107:48
 sub-put-two : tie.Need-sub-put-two
 sub-put-two c = search needs
 
--- src/store.rt:107:41
 add-put-two : tie.Need-add-put-two
 add-put-two c = search needs
 
--- src/store.rt:107:40
 cast-put-two : tie.Need-cast-put-two
 cast-put-two c = search needs
 
--- src/store.rt:107:75
 sub-put-two-2 : tie.Need-sub-put-two-2
 sub-put-two-2 c = search needs
 
--- src/store.rt:107:73
 cast-put-two-2 : tie.Need-cast-put-two-2
 cast-put-two-2 c = search needs
 
--- src/store.rt:107:9
 put-two-requires : tie.Need-put-two-requires
 put-two-requires c κs = search needs
 
--- src/store.rt:107:9
 same-length-2 : tie.Need-same-length-2
 same-length-2 c = search needs
 
--- src/store.rt:107:9
 returns-2 : tie.Need-returns-2
 returns-2 c = stored-as _ _ _ (sym (low-pair _ (omega arith) (omega arith))) (c .before .before .put-two .ensures .0) (c .before .before .put-two .ensures .1)
 
--- src/store.rt:110:42
 sub-put-byte : tie.Need-sub-put-byte
 sub-put-byte c = search needs
 
--- src/store.rt:110:41
 cast-put-byte : tie.Need-cast-put-byte
 cast-put-byte c = search needs
 
--- src/store.rt:110:9
 put-byte-requires : tie.Need-put-byte-requires
 put-byte-requires c κs = search needs
 
--- src/store.rt:110:9
 same-length-3 : tie.Need-same-length-3
 same-length-3 c = search needs
 
--- src/store.rt:110:9
 returns-3 : tie.Need-returns-3
 returns-3 c = stored-as _ _ _ (sym (one-byte _ (omega arith) (omega arith))) (c .before .before .put-byte .ensures .0) (c .before .before .put-byte .ensures .1)
 
--- src/store.rt:113:48
 sub-put-two-3 : tie.Need-sub-put-two-3
 sub-put-two-3 c = search needs
 
--- src/store.rt:113:41
 add-put-two-2 : tie.Need-add-put-two-2
 add-put-two-2 c = search needs
 
--- src/store.rt:113:40
 cast-put-two-3 : tie.Need-cast-put-two-3
 cast-put-two-3 c = search needs
 
--- src/store.rt:113:75
 sub-put-two-4 : tie.Need-sub-put-two-4
 sub-put-two-4 c = search needs
 
--- src/store.rt:113:73
 cast-put-two-4 : tie.Need-cast-put-two-4
 cast-put-two-4 c = search needs
 
--- src/store.rt:113:9
 put-two-requires-2 : tie.Need-put-two-requires-2
 put-two-requires-2 c κs = search needs
 
--- src/store.rt:113:9
 same-length-4 : tie.Need-same-length-4
 same-length-4 c = search needs
 
--- src/store.rt:113:9
 returns-4 : tie.Need-returns-4
 returns-4 c = stored-as _ _ _ (sym (high-pair _ (omega arith) (omega arith))) (c .before .before .put-two2 .ensures .0) (c .before .before .put-two2 .ensures .1)
 
--- src/store.rt:116:9
 put-wide-requires-2 : tie.Need-put-wide-requires-2
 put-wide-requires-2 c κs = search needs
 
--- src/store.rt:116:9
 same-length-5 : tie.Need-same-length-5
 same-length-5 c = search needs
 
--- src/store.rt:116:9
 returns-5 : tie.Need-returns-5
 returns-5 c = stored-as _ _ _ (sym (high-wide _ (omega arith) (omega arith))) (c .before .before .put-wide2 .ensures .0) (c .before .before .put-wide2 .ensures .1)
 
--- src/store.rt:98:1
 returns-6 : tie.Need-returns-6
 returns-6 c = stored-as _ _ _ (sym (no-bytes _ (omega arith))) (omega arith) (stored-none _ _ _)
 

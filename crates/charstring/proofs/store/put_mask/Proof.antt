@@ -7,9 +7,6 @@ use Rattle.charstring.specs.WordsLaws.{puts-next, puts-clipped}
 use Rattle.charstring.proofs.Stored.{stored-none}
 use Rattle.charstring.proofs.store.put_mask.Statement.{statement}
 use Rattle.charstring.proofs.store.put_mask.Tie as tie
-use Rattle.charstring.proofs.store.put_mask.Reads as reads
-use Rattle.charstring.proofs.store.put_mask.Lts as lts
-use Rattle.charstring.proofs.store.clipped.Reads as clipped-reads
 
 abbrev Inv-loop : tie.InvT-loop
 Inv-loop out₀ limit at m n k₀ out k = (k ≤ n) × (length out ≡ length out₀) × (out ≡ puts limit at (take k m) out₀)
@@ -17,47 +14,36 @@ Inv-loop out₀ limit at m n k₀ out k = (k ≤ n) × (length out ≡ length ou
 abbrev μ-loop : tie.MeasureT-loop
 μ-loop out₀ limit at m n k₀ out k = n - k
 
--- src/store.rt:75:9
 clipped-requires : tie.Need-clipped-requires Inv-loop μ-loop
 clipped-requires c κs = tt
 
--- src/store.rt:77:5
 loop-holds : tie.Need-loop-holds Inv-loop μ-loop
 loop-holds c = (omega arith, refl, stored-none _ _ _)
 
--- src/store.rt:78:23
 shared-slice-read-out : tie.Need-shared-slice-read-out Inv-loop μ-loop
 shared-slice-read-out c = omega arith
 
--- src/store.rt:78:13
 add-out : tie.Need-add-out Inv-loop μ-loop
 add-out c = omega arith
 
--- src/store.rt:78:9
 slice-write-out : tie.Need-slice-write-out Inv-loop μ-loop
 slice-write-out c = omega arith
 
--- src/store.rt:79:9
 add-k : tie.Need-add-k Inv-loop μ-loop
 add-k c = omega arith
 
--- src/store.rt:77:5
 loop-less : tie.Need-loop-less Inv-loop μ-loop
 loop-less c = omega arith
 
--- src/store.rt:77:5
 loop-again : tie.Need-loop-again Inv-loop μ-loop
 loop-again c = (omega arith, length-set (c .before .before .loop .out) _ _ ∙ c .before .before .loop .inv .1, ap (λ l. set l (c .before .before .before .before .before .before .args .at + c .before .before .loop .k) (getD (c .before .before .before .before .before .before .args .m .now) (c .before .before .loop .k) 0)) (c .before .before .loop .inv .2) ∙ puts-next _ _ (c .before .before .before .before .before .before .args .m .now) _ (c .before .before .loop .k) (omega arith) (omega arith))
 
--- src/store.rt:81:5
 add-result : tie.Need-add-result Inv-loop μ-loop
 add-result c = omega arith
 
--- src/store.rt:70:1
 same-length : tie.Need-same-length Inv-loop μ-loop
 same-length c = c .before .loop .inv .1
 
--- src/store.rt:70:1
 returns : tie.Need-returns Inv-loop μ-loop
 returns c = (refl, c .before .loop .inv .2 ∙ puts-clipped _ _ _ _ (c .before .loop .k) (omega arith))
 

@@ -5,43 +5,31 @@ use Rattle.charstring.specs.Short.{low-wide, low-pair, one-byte, high-pa
 use borrow.Author.Needs.{needs}
 use Rattle.charstring.proofs.store.size_of.Statement.{statement}
 use Rattle.charstring.proofs.store.size_of.Tie as tie
-use Rattle.charstring.proofs.store.size_of.Reads as reads
-use Rattle.charstring.proofs.store.size_of.Lts as lts
-use Rattle.charstring.proofs.argstack.bits_of.Reads as bits-of-reads
 
--- src/store.rt:34:9
 returns : tie.Need-returns
 returns c = fixed-size _ (omega arith) (search needs)
 
--- src/store.rt:36:14
 bits-of-requires : tie.Need-bits-of-requires
 bits-of-requires c κs = search needs
 
--- src/store.rt:36:14
 add-v : tie.Need-add-v
 add-v c = search needs
 
--- src/store.rt:38:9
 returns-2 : tie.Need-returns-2
 returns-2 c = integer-size (c .before .before .before .before .args .o) (omega arith) (search needs) _ (passed (c .before .before .before .before .args .o .value) (omega arith) (c .before .bits-of .ensures .0)) (low-wide _ (omega arith))
 
--- src/store.rt:41:9
 returns-3 : tie.Need-returns-3
 returns-3 c = integer-size (c .before .before .before .before .before .args .o) (omega arith) (search needs) _ (passed (c .before .before .before .before .before .args .o .value) (omega arith) (c .before .before .bits-of .ensures .0)) (low-pair _ (omega arith) (omega arith))
 
--- src/store.rt:44:9
 returns-4 : tie.Need-returns-4
 returns-4 c = integer-size (c .before .before .before .before .before .before .args .o) (omega arith) (search needs) _ (passed (c .before .before .before .before .before .before .args .o .value) (omega arith) (c .before .before .before .bits-of .ensures .0)) (one-byte _ (omega arith) (omega arith))
 
--- src/store.rt:47:9
 returns-5 : tie.Need-returns-5
 returns-5 c = integer-size (c .before .before .before .before .before .before .before .args .o) (omega arith) (search needs) _ (passed (c .before .before .before .before .before .before .before .args .o .value) (omega arith) (c .before .before .before .before .bits-of .ensures .0)) (high-pair _ (omega arith) (omega arith))
 
--- src/store.rt:50:9
 returns-6 : tie.Need-returns-6
 returns-6 c = integer-size (c .before .before .before .before .before .before .before .before .args .o) (omega arith) (search needs) _ (passed (c .before .before .before .before .before .before .before .before .args .o .value) (omega arith) (c .before .before .before .before .before .bits-of .ensures .0)) (high-wide _ (omega arith) (omega arith))
 
--- src/store.rt:30:1
 returns-7 : tie.Need-returns-7
 returns-7 c = integer-size (c .before .before .before .before .before .before .before .before .args .o) (omega arith) (search needs) _ (passed (c .before .before .before .before .before .before .before .before .args .o .value) (omega arith) (c .before .before .before .before .before .bits-of .ensures .0)) (no-bytes _ (omega arith))
 

@@ -4,40 +4,28 @@ use Rattle.charstring.proofs.Targets.{aimed-entry, aimed-none}
 use borrow.Author.Needs.{needs}
 use Rattle.charstring.proofs.subroutines.aim.Statement.{statement}
 use Rattle.charstring.proofs.subroutines.aim.Tie as tie
-use Rattle.charstring.proofs.subroutines.aim.Reads as reads
-use Rattle.charstring.proofs.subroutines.aim.Lts as lts
-use Rattle.charstring.proofs.subroutines.enter.Reads as enter-reads
-use Rattle.number.proofs.callee_of.Reads as callee-of-reads
 
--- src/subroutines.rt:26:11
 callee-of-requires : tie.Need-callee-of-requires
 callee-of-requires c κs = search needs
 
--- src/subroutines.rt:27:23
 enum-known-k : tie.Need-enum-known-k
 enum-known-k c = search needs
 
--- src/subroutines.rt:27:29
 enter-requires : tie.Need-enter-requires
 enter-requires c κs = search needs
 
--- src/subroutines.rt:28:40
 enum-told : tie.Need-enum-told
 enum-told c = search needs
 
--- src/subroutines.rt:29:39
 enum-told-2 : tie.Need-enum-told-2
 enum-told-2 c = search needs
 
--- src/subroutines.rt:22:1
 returns : tie.Need-returns
 returns c = (c .enter .ensures .0 ∙ aimed-entry _ _ _ _ _ _ _ (ap calleeOf (sym (c .before .before .k .given .1)) ∙ c .before .before .before .before .callee-of .ensures), c .enter .ensures .1)
 
--- src/subroutines.rt:22:1
 returns-2 : tie.Need-returns-2
 returns-2 c = (aimed-none _ _ _ _ _ _ 7 (ap calleeOf (sym (c .enum-told .given .1)) ∙ c .before .before .callee-of .ensures), tt)
 
--- src/subroutines.rt:22:1
 returns-3 : tie.Need-returns-3
 returns-3 c = (aimed-none _ _ _ _ _ _ 9 (ap calleeOf (sym (c .enum-told2 .given .1)) ∙ c .before .before .callee-of .ensures), tt)
 

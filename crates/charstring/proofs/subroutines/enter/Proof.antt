@@ -15,9 +15,6 @@ use Rattle.charstring.proofs.Targets.{no-entry, too-deep, not-last, ent
 use borrow.Author.Needs.{needs}
 use Rattle.charstring.proofs.subroutines.enter.Statement.{statement}
 use Rattle.charstring.proofs.subroutines.enter.Tie as tie
-use Rattle.charstring.proofs.subroutines.enter.Reads as reads
-use Rattle.charstring.proofs.subroutines.enter.Lts as lts
-use Rattle.index.proofs.read_entry.Reads as read-entry-reads
 
 -- what is no entry, by each of its reasons
 none-read : (levels tail : ℕ) (x : Answer Place) (r : EntryRead) → OneOf (1 ∷ 2 ∷ 3 ∷ []) (tagOf entry-type.the-type r) → entryRead r ≡ x → refused 9 [] ≡ enterBy levels tail x
@@ -30,31 +27,24 @@ none-read levels tail x Absent k e = no-entry levels tail _ _ x e
 lies-at : (c : tie.After-start) → lies (c .start .given .0 .0) (c .start .given .0 .1 .0) ≡ place 2 (c .before .before .before .before .args .list .now) (c .before .before .before .before .args .k)
 lies-at c = ap entryRead (sym (c .start .given .1)) ∙ c .before .before .read-entry .ensures
 
--- src/subroutines.rt:38:43
 read-entry-requires : tie.Need-read-entry-requires
 read-entry-requires c κs = search needs
 
--- src/subroutines.rt:38:26
 enum-known-start : tie.Need-enum-known-start
 enum-known-start c = search needs
 
--- src/subroutines.rt:39:9
 returns : tie.Need-returns
 returns c = (none-read _ _ _ (c .before .read-entry .result) (c .match .keys2) (c .before .read-entry .ensures), tt)
 
--- src/subroutines.rt:42:9
 returns-2 : tie.Need-returns-2
 returns-2 c = (too-deep _ _ _ _ _ (lies-at (c .before .before)) (c .if1 .taken), tt)
 
--- src/subroutines.rt:45:9
 returns-3 : tie.Need-returns-3
 returns-3 c = (not-last _ _ _ _ _ (lies-at (c .before .before .before)) (c .before .if1 .left) (c .if2 .taken), tt)
 
--- src/subroutines.rt:47:26
 add-t12 : tie.Need-add-t12
 add-t12 c = let h = inside 2 _ _ _ _ (lies-at (c .before .before .before)) in omega arith
 
--- src/subroutines.rt:34:1
 returns-4 : tie.Need-returns-4
 returns-4 c = let h = inside 2 _ _ _ _ (lies-at (c .before .before .before)) in (entered _ _ _ _ _ (lies-at (c .before .before .before)) (c .before .if1 .left) (c .if2 .left), (omega arith, h))
 

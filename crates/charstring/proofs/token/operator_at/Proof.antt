@@ -3,42 +3,31 @@ use Rattle.charstring.proofs.Cuts.{plain-at, lacks-at, escaped-at}
 use borrow.Author.Needs.{needs}
 use Rattle.charstring.proofs.token.operator_at.Statement.{statement}
 use Rattle.charstring.proofs.token.operator_at.Tie as tie
-use Rattle.charstring.proofs.token.operator_at.Reads as reads
-use Rattle.charstring.proofs.token.operator_at.Lts as lts
 
--- src/token.rt:40:13
 shared-slice-read-b : tie.Need-shared-slice-read-b
 shared-slice-read-b c = search needs
 
--- src/token.rt:47:13
 add-t8 : tie.Need-add-t8
 add-t8 c = search needs
 
--- src/token.rt:42:9
 returns : tie.Need-returns
 returns c = (plain-at _ _ (c .before .before .pre) (c .if1 .taken), (omega arith, omega arith))
 
--- src/token.rt:50:20
 add-if2 : tie.Need-add-if2
 add-if2 c = search needs
 
--- src/token.rt:51:9
 returns-2 : tie.Need-returns-2
 returns-2 c = (lacks-at _ _ (c .before .before .before .pre) (omega arith) (omega arith), tt)
 
--- src/token.rt:56:22
 add-t9 : tie.Need-add-t9
 add-t9 c = search needs
 
--- src/token.rt:56:19
 shared-slice-read-t5 : tie.Need-shared-slice-read-t5
 shared-slice-read-t5 c = search needs
 
--- src/token.rt:58:9
 add-t10 : tie.Need-add-t10
 add-t10 c = search needs
 
--- src/token.rt:35:1
 returns-3 : tie.Need-returns-3
 returns-3 c = (escaped-at _ _ (c .before .before .before .before .pre) (omega arith) (omega arith), (omega arith, omega arith))
 

@@ -5,56 +5,40 @@ use Rattle.charstring.proofs.Cuts.{number-at, number-ahead, missing-at,
 use borrow.Author.Needs.{needs}
 use Rattle.charstring.proofs.token.token_at.Statement.{statement}
 use Rattle.charstring.proofs.token.token_at.Tie as tie
-use Rattle.charstring.proofs.token.token_at.Reads as reads
-use Rattle.charstring.proofs.token.token_at.Lts as lts
-use Rattle.charstring.proofs.token.operator_at.Reads as operator-at-reads
-use Rattle.number.proofs.read_charstring_number.Reads as read-charstring-number-reads
 
--- src/token.rt:27:34
 sub-read-charstring-number : tie.Need-sub-read-charstring-number
 sub-read-charstring-number c = search needs
 
--- src/token.rt:27:34
 part-read-charstring-number-start : tie.Need-part-read-charstring-number-start
 part-read-charstring-number-start c = search needs
 
--- src/token.rt:27:34
 part-read-charstring-number-end : tie.Need-part-read-charstring-number-end
 part-read-charstring-number-end c = search needs
 
--- src/token.rt:27:11
 read-charstring-number-requires : tie.Need-read-charstring-number-requires
 read-charstring-number-requires c κs = search needs
 
--- src/token.rt:28:26
 enum-known-o : tie.Need-enum-known-o
 enum-known-o c = search needs
 
--- src/token.rt:28:56
 add-t11 : tie.Need-add-t11
 add-t11 c = let h = number-ahead (c .before .before .before .before .before .before .args .cs .now) (c .before .before .before .before .before .before .args .i) (c .before .before .before .before .before .before .pre) (c .before .o .given .0 .0) (c .before .o .given .0 .1 .0) (ap numberRead (sym (c .before .o .given .1)) ∙ c .before .before .before .read-charstring-number .ensures) .1 in omega arith
 
--- src/token.rt:29:32
 enum-told : tie.Need-enum-told
 enum-told c = search needs
 
--- src/token.rt:30:33
 enum-told-2 : tie.Need-enum-told-2
 enum-told-2 c = search needs
 
--- src/token.rt:30:33
 operator-at-requires : tie.Need-operator-at-requires
 operator-at-requires c κs = search needs
 
--- src/token.rt:22:1
 returns : tie.Need-returns
 returns c = let e = ap numberRead (sym (c .before .o .given .1)) ∙ c .before .before .before .read-charstring-number .ensures in (number-at (c .before .before .before .before .before .before .args .cs .now) (c .before .before .before .before .before .before .args .i) (c .before .before .before .before .before .before .pre) (c .before .o .given .0 .0) (c .before .o .given .0 .1 .0) e, number-ahead (c .before .before .before .before .before .before .args .cs .now) (c .before .before .before .before .before .before .args .i) (c .before .before .before .before .before .before .pre) (c .before .o .given .0 .0) (c .before .o .given .0 .1 .0) e)
 
--- src/token.rt:22:1
 returns-2 : tie.Need-returns-2
 returns-2 c = (missing-at _ _ (c .before .before .before .before .before .pre) (ap numberRead (sym (c .enum-told .given .1)) ∙ c .before .before .read-charstring-number .ensures), tt)
 
--- src/token.rt:22:1
 returns-3 : tie.Need-returns-3
 returns-3 c = (c .operator-at .ensures .0 ∙ operator-there _ _ (c .before .before .before .before .before .before .pre) (ap numberRead (sym (c .before .enum-told2 .given .1)) ∙ c .before .before .before .read-charstring-number .ensures), c .operator-at .ensures .1)
 

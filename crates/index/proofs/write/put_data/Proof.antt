@@ -7,8 +7,6 @@ use borrow.Author.Needs.{needs}
 use Rattle.index.specs.WritingLaws.{laid, laid-step, laid-end}
 use Rattle.index.proofs.write.put_data.Statement.{statement}
 use Rattle.index.proofs.write.put_data.Tie as tie
-use Rattle.index.proofs.write.put_data.Reads as reads
-use Rattle.index.proofs.write.put_data.Lts as lts
 
 abbrev Inv-loop : tie.InvT-loop
 Inv-loop joined at out₀ i₀ out i = (i ≤ length joined) × (length out ≡ length out₀) × (laid (at + i) (drop i joined) out ≡ laid at joined out₀)
@@ -16,41 +14,32 @@ Inv-loop joined at out₀ i₀ out i = (i ≤ length joined) × (length out ≡ 
 abbrev μ-loop : tie.MeasureT-loop
 μ-loop joined at out₀ i₀ out i = length joined - i
 
--- src/write.rt:138:5
 loop-holds : tie.Need-loop-holds Inv-loop μ-loop
 loop-holds c = (omega arith, refl, rw add-zero)
 
--- src/write.rt:139:23
 shared-slice-read-out : tie.Need-shared-slice-read-out Inv-loop μ-loop
 shared-slice-read-out c = search needs
 
--- src/write.rt:139:13
 add-out : tie.Need-add-out Inv-loop μ-loop
 add-out c = search needs
 
--- src/write.rt:139:9
 slice-write-out : tie.Need-slice-write-out Inv-loop μ-loop
 slice-write-out c = search needs
 
--- src/write.rt:140:9
 add-i : tie.Need-add-i Inv-loop μ-loop
 add-i c = search needs
 
--- src/write.rt:138:5
 loop-less : tie.Need-loop-less Inv-loop μ-loop
 loop-less c = search needs
 
--- src/write.rt:138:5
 loop-again : tie.Need-loop-again Inv-loop μ-loop
 loop-again c =
     let l = c .before .before .loop in
     (omega arith, length-set (l .out) _ _ ∙ l .inv .1, laid-step _ _ _ _ (omega arith) (omega arith) ∙ l .inv .2)
 
--- src/write.rt:133:1
 same-length : tie.Need-same-length Inv-loop μ-loop
 same-length c = c .before .loop .inv .1
 
--- src/write.rt:133:1
 returns : tie.Need-returns Inv-loop μ-loop
 returns c = sym (laid-end _ _ _ _ (omega arith)) ∙ c .before .loop .inv .2
 

@@ -8,11 +8,6 @@ use Rattle.index.specs.WritingLaws.{Holds, size-holds, reach-count, reac
 use borrow.Author.Needs.{needs}
 use Rattle.index.proofs.write.put_index.Statement.{statement}
 use Rattle.index.proofs.write.put_index.Tie as tie
-use Rattle.index.proofs.write.put_index.Reads as reads
-use Rattle.index.proofs.write.put_index.Lts as lts
-use Rattle.index.proofs.write.put_data.Reads as put-data-reads
-use Rattle.index.proofs.write.put_offset.Reads as put-offset-reads
-use Rattle.index.proofs.write.put_offsets.Reads as put-offsets-reads
 
 -- Where there are elements.
 module _ (c : tie.Else1) where
@@ -35,58 +30,45 @@ module _ (c : tie.Else1) where
 after-offsets : (c : tie.After-put-offsets) → length (c .put-offsets .last .1 .1 .0) ≡ length (start (c .before .before) .args .out .now)
 after-offsets c = c .put-offsets .kept .1 .1 .0 ∙ after-size (c .before .before)
 
--- src/write.rt:98:27
 cast-put-offset : tie.Need-cast-put-offset
 cast-put-offset c = search needs
 
--- src/write.rt:98:5
 put-offset-requires : tie.Need-put-offset-requires
 put-offset-requires c κs =
     let a = c .before .before .before .before .args in (omega arith, omega (arith, reach-count 2 (length (a .lengths .now)) (a .size) (length (a .joined .now))))
 
--- src/write.rt:100:9
 same-length : tie.Need-same-length
 same-length c = search needs
 
--- src/write.rt:100:9
 returns : tie.Need-returns
 returns c = c .before .before .before .put-offset .ensures ∙ none-laid _ _ _ _ _ (c .before .before .before .before .before .before .before .before .pre .1 .0) (omega arith)
 
--- src/write.rt:102:14
 cast-out : tie.Need-cast-out
 cast-out c = omega (arith, sized c)
 
--- src/write.rt:102:5
 slice-write-out : tie.Need-slice-write-out
 slice-write-out c = let r = room c in omega arith
 
--- src/write.rt:103:5
 put-offsets-requires : tie.Need-put-offsets-requires
 put-offsets-requires c κs =
     let r = room (c .before) in
     (sized (c .before) .four, start (c .before) .pre .0 .short, omega (arith, after-size (c .before)))
 
--- src/write.rt:104:27
 add-put-data : tie.Need-add-put-data
 add-put-data c = search needs
 
--- src/write.rt:104:26
 mul-put-data : tie.Need-mul-put-data
 mul-put-data c = let r = room (c .before .before .before .before) in omega arith
 
--- src/write.rt:104:22
 add-put-data-2 : tie.Need-add-put-data-2
 add-put-data-2 c = let r = room (c .before .before .before .before) in omega arith
 
--- src/write.rt:104:5
 put-data-requires : tie.Need-put-data-requires
 put-data-requires c κs = let r = room (c .before .before .before .before .before) in omega (arith, after-offsets (c .before .before .before))
 
--- src/write.rt:91:1
 same-length-2 : tie.Need-same-length-2
 same-length-2 c = c .before .before .put-data .kept .1 .1 .0 ∙ after-offsets (c .before .before .before .before .before .before)
 
--- src/write.rt:91:1
 returns-2 : tie.Need-returns-2
 returns-2 c =
     let e = c .before .before .before .before .before .before .before .before in

@@ -5,19 +5,13 @@ use Rattle.number.specs.BigEndianLaws.{stored-here}
 use borrow.Author.Needs.{needs}
 use Rattle.index.proofs.write.put_offset.Statement.{statement}
 use Rattle.index.proofs.write.put_offset.Tie as tie
-use Rattle.index.proofs.write.put_offset.Reads as reads
-use Rattle.index.proofs.write.put_offset.Lts as lts
-use Rattle.number.proofs.write_be.Reads as write-be-reads
 
--- src/write.rt:129:5
 write-be-requires : tie.Need-write-be-requires
 write-be-requires c κs = search needs
 
--- src/write.rt:125:1
 same-length : tie.Need-same-length
 same-length c = search needs
 
--- src/write.rt:125:1
 returns : tie.Need-returns
 returns c = ap (λ (p : Put). p .left) (c .before .before .write-be .ensures ∙ sym (stored-here _ _ _ _ (omega arith) (omega arith) _ refl))
 

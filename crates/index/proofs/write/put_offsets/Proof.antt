@@ -7,9 +7,6 @@ use Rattle.index.specs.Writing.{total, offsets}
 use Rattle.index.specs.WritingLaws.{laid, total-drop, offset-next, offset-last, offset-past, offset-room}
 use Rattle.index.proofs.write.put_offsets.Statement.{statement}
 use Rattle.index.proofs.write.put_offsets.Tie as tie
-use Rattle.index.proofs.write.put_offsets.Reads as reads
-use Rattle.index.proofs.write.put_offsets.Lts as lts
-use Rattle.index.proofs.write.put_offset.Reads as put-offset-reads
 
 abbrev Inv-loop : tie.InvT-loop
 Inv-loop lengths size out₀ offset₀ at₀ i₀ out offset at i =
@@ -23,41 +20,32 @@ abbrev μ-loop : tie.MeasureT-loop
 inside : (c : tie.At-loop Inv-loop μ-loop) → c .loop .at + c .before .before .before .args .size ≤ length (c .loop .out)
 inside c = let l = c .loop in offset-room 2 (l .i) (c .before .before .before .args .size) (l .at) (l .inv .2) (l .inv .0) (omega arith)
 
--- src/write.rt:115:5
 loop-holds : tie.Need-loop-holds Inv-loop μ-loop
 loop-holds c = (omega arith, refl, omega arith, omega arith, refl)
 
--- src/write.rt:116:9
 put-offset-requires : tie.Need-put-offset-requires Inv-loop μ-loop
 put-offset-requires c κs = (c .before .before .before .before .before .pre .0, inside (c .before .before))
 
--- src/write.rt:117:19
 mul-offset : tie.Need-mul-offset Inv-loop μ-loop
 mul-offset c = omega arith
 
--- src/write.rt:117:19
 shared-slice-read-offset : tie.Need-shared-slice-read-offset Inv-loop μ-loop
 shared-slice-read-offset c = search needs
 
--- src/write.rt:117:9
 add-offset : tie.Need-add-offset Inv-loop μ-loop
 add-offset c =
     let l = c .before .before .before .before .before .before in
     omega (arith, total-drop (l .before .before .before .args .lengths .now) (l .loop .i) (omega arith))
 
--- src/write.rt:118:9
 add-at : tie.Need-add-at Inv-loop μ-loop
 add-at c = omega (arith, inside (c .before .before .before .before .before .before))
 
--- src/write.rt:119:9
 add-i : tie.Need-add-i Inv-loop μ-loop
 add-i c = search needs
 
--- src/write.rt:115:5
 loop-less : tie.Need-loop-less Inv-loop μ-loop
 loop-less c = search needs
 
--- src/write.rt:115:5
 loop-again : tie.Need-loop-again Inv-loop μ-loop
 loop-again c =
     let l = c .before .before .before .before .before .before .loop in
@@ -72,15 +60,12 @@ loop-again c =
       ap (laid (l .at + a .size) _) (put .ensures) ∙ offset-next (a .size) (l .offset) (a .lengths .now) (l .i) (l .at) (l .out) (omega arith) (omega arith) ∙ l .inv .4,
     )
 
--- src/write.rt:121:5
 put-offset-requires-2 : tie.Need-put-offset-requires-2 Inv-loop μ-loop
 put-offset-requires-2 c κs = (c .before .before .before .before .before .pre .0, inside (c .before .before))
 
--- src/write.rt:108:1
 same-length : tie.Need-same-length Inv-loop μ-loop
 same-length c = c .before .before .put-offset2 .kept .0 ∙ c .before .before .before .before .before .loop .inv .1
 
--- src/write.rt:108:1
 returns : tie.Need-returns Inv-loop μ-loop
 returns c =
     let l = c .before .before .before .before .before .loop in

@@ -2,22 +2,16 @@ use native.Mathlib.Omega.{arith}
 use Rattle.index.specs.WritingLaws.{size-one, size-two, size-three, size-four}
 use Rattle.index.proofs.write.size_for.Statement.{statement}
 use Rattle.index.proofs.write.size_for.Tie as tie
-use Rattle.index.proofs.write.size_for.Reads as reads
-use Rattle.index.proofs.write.size_for.Lts as lts
 
--- src/write.rt:68:9
 returns : tie.Need-returns
 returns c = size-one (omega arith)
 
--- src/write.rt:71:9
 returns-2 : tie.Need-returns-2
 returns-2 c = size-two (omega arith) (omega arith)
 
--- src/write.rt:74:9
 returns-3 : tie.Need-returns-3
 returns-3 c = size-three (omega arith) (omega arith)
 
--- src/write.rt:64:1
 returns-4 : tie.Need-returns-4
 returns-4 c = size-four (omega arith)
 

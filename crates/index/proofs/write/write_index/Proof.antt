@@ -7,12 +7,6 @@ use Rattle.index.specs.WritingLaws.{Writable, reachOf, size-holds, lengt
 use borrow.Author.Needs.{needs}
 use Rattle.index.proofs.write.write_index.Statement.{statement}
 use Rattle.index.proofs.write.write_index.Tie as tie
-use Rattle.index.proofs.write.write_index.Reads as reads
-use Rattle.index.proofs.write.write_index.Lts as lts
-use Rattle.index.proofs.write.needed_for.Reads as needed-for-reads
-use Rattle.index.proofs.write.put_index.Reads as put-index-reads
-use Rattle.index.proofs.write.size_for.Reads as size-for-reads
-use Rattle.index.proofs.write.sum_of.Reads as sum-of-reads
 
 -- Where no test has refused.
 abbrev start : tie.Else3 → tie.Start
@@ -30,51 +24,39 @@ whole c =
     let joined = start (c .before .before) .args .joined .now in
     c .needed-for .ensures ∙ ap (λ (z : ℕ). reachOf 2 (length ls) z (length joined)) (sized (c .before)) ∙ sym (length-index 2 ls joined)
 
--- src/write.rt:31:9
 returns : tie.Need-returns
 returns c = too-many _ _ _ _ (omega arith)
 
--- src/write.rt:33:9
 sum-of-requires : tie.Need-sum-of-requires
 sum-of-requires c κs = search needs
 
--- src/write.rt:35:9
 returns-2 : tie.Need-returns-2
 returns-2 c = too-long _ _ _ _ (omega arith) (omega arith)
 
--- src/write.rt:38:9
 returns-3 : tie.Need-returns-3
 returns-3 c = mismatch _ _ _ _ (omega arith) (omega arith) (omega arith)
 
--- src/write.rt:40:26
 add-size-for : tie.Need-add-size-for
 add-size-for c = search needs
 
--- src/write.rt:40:25
 cast-size-for : tie.Need-cast-size-for
 cast-size-for c = search needs
 
--- src/write.rt:40:9
 size-for-requires : tie.Need-size-for-requires
 size-for-requires c κs = search needs
 
--- src/write.rt:41:9
 needed-for-requires : tie.Need-needed-for-requires
 needed-for-requires c κs = (omega arith, rw (sized c) (size-holds _ (can (c .before) .short) .four), omega arith)
 
--- src/write.rt:43:9
 returns-4 : tie.Need-returns-4
 returns-4 c = no-room _ _ _ _ (can (c .before .before .before)) _ (whole (c .before)) (omega arith)
 
--- src/write.rt:45:5
 put-index-requires : tie.Need-put-index-requires
 put-index-requires c κs = (can (c .before .before .before .before), (sized (c .before .before .before), omega arith))
 
--- src/write.rt:26:1
 same-length : tie.Need-same-length
 same-length c = search needs
 
--- src/write.rt:26:1
 returns-5 : tie.Need-returns-5
 returns-5 c = written _ _ _ _ (can (c .before .before .before .before .before .before .before)) _ (whole (c .before .before .before .before .before)) (omega arith) _ (c .before .before .put-index .ensures)
 

@@ -1,5 +1,5 @@
-use mathlib.Core.Path.{_≡_, refl, sym, ap, _∙_}
-use Prim.Native.Nat.{ℕ, _+_, _-_, _*_, _<_, _≤_, _^_}
+use mathlib.Core.Path.{_≡_, refl, ap, _∙_}
+use Prim.Native.Nat.{_+_, _-_, _*_, _<_, _≤_, _^_}
 use native.Mathlib.Omega.{arith}
 use borrow.Author.Needs.{needs}
 use lib.Dec.{lit<}
@@ -7,8 +7,6 @@ use Rattle.number.specs.BigEndian.{beAt}
 use Rattle.number.specs.BigEndianLaws.{be-step, step-lt, under}
 use Rattle.number.proofs.big_endian.be.Statement.{statement}
 use Rattle.number.proofs.big_endian.be.Tie as tie
-use Rattle.number.proofs.big_endian.be.Reads as reads
-use Rattle.number.proofs.big_endian.be.Lts as lts
 
 abbrev Inv-loop : tie.InvT-loop
 Inv-loop s at k v₀ i₀ v i = (i ≤ k) × (v ≡ beAt s at i) × (v < 2 ^ (8 * i))
@@ -16,49 +14,39 @@ Inv-loop s at k v₀ i₀ v i = (i ≤ k) × (v ≡ beAt s at i) × (v < 2 ^ (8 
 abbrev μ-loop : tie.MeasureT-loop
 μ-loop s at k v₀ i₀ v i = k - i
 
--- src/lib.rt:71:5
 loop-holds : tie.Need-loop-holds Inv-loop μ-loop
 unfolding beAt
 loop-holds c = (search needs, refl, lit< tt)
 
--- src/lib.rt:72:13
 mul-v : tie.Need-mul-v Inv-loop μ-loop
 mul-v c = omega (arith, under (c .before .loop .i) 3 (c .before .loop .inv .2) (search needs))
 
--- src/lib.rt:72:26
 add-v : tie.Need-add-v Inv-loop μ-loop
 add-v c = omega arith
 
--- src/lib.rt:72:24
 shared-slice-read-v : tie.Need-shared-slice-read-v Inv-loop μ-loop
 shared-slice-read-v c = omega arith
 
--- src/lib.rt:72:24
 cast-v : tie.Need-cast-v Inv-loop μ-loop
 cast-v c = omega (arith, c .shared-slice-known .given (c .before .before .before .args .at + c .before .before .loop .i))
 
--- src/lib.rt:72:13
 add-v-2 : tie.Need-add-v-2 Inv-loop μ-loop
 add-v-2 c =
     omega
     (arith, under (c .before .before .loop .i) 3 (c .before .before .loop .inv .2) (search needs), c .shared-slice-known .given (c .before .before .before .args .at + c .before .before .loop .i))
 
--- src/lib.rt:73:9
 add-i : tie.Need-add-i Inv-loop μ-loop
 add-i c = omega arith
 
--- src/lib.rt:71:5
 loop-less : tie.Need-loop-less Inv-loop μ-loop
 loop-less c = omega arith
 
--- src/lib.rt:71:5
 loop-again : tie.Need-loop-again Inv-loop μ-loop
 loop-again c =
     let l = c .before .before .loop in
     let a = c .before .before .before .args in
     (search needs, rw (be-step (a .s .now) (a .at) (l .i), l .inv .1), step-lt (l .i) (l .inv .2) (c .shared-slice-known .given (a .at + l .i) .fits))
 
--- src/lib.rt:65:1
 returns : tie.Need-returns Inv-loop μ-loop
 returns c = c .before .loop .inv .1 ∙ ap (beAt (c .before .before .args .s .now) (c .before .before .args .at)) (omega arith)
 

@@ -7,8 +7,6 @@ use Rattle.number.specs.BigEndian.{putAt}
 use Rattle.number.specs.BigEndianLaws.{put-none, put-step}
 use Rattle.number.proofs.big_endian.put_be.Statement.{statement}
 use Rattle.number.proofs.big_endian.put_be.Tie as tie
-use Rattle.number.proofs.big_endian.put_be.Reads as reads
-use Rattle.number.proofs.big_endian.put_be.Lts as lts
 
 abbrev Inv-loop : tie.InvT-loop
 Inv-loop out₀ at k v j₀ rest₀ out j rest = (j ≤ k) × (length out ≡ length out₀) × (putAt out at j rest ≡ putAt out₀ at k v)
@@ -16,31 +14,24 @@ Inv-loop out₀ at k v j₀ rest₀ out j rest = (j ≤ k) × (length out ≡ le
 abbrev μ-loop : tie.MeasureT-loop
 μ-loop out₀ at k v j₀ rest₀ out j rest = j
 
--- src/lib.rt:163:5
 loop-holds : tie.Need-loop-holds Inv-loop μ-loop
 loop-holds c = (le-refl _, refl, refl)
 
--- src/lib.rt:164:9
 sub-j : tie.Need-sub-j Inv-loop μ-loop
 sub-j c = omega arith
 
--- src/lib.rt:165:23
 cast-out : tie.Need-cast-out Inv-loop μ-loop
 cast-out c = omega arith
 
--- src/lib.rt:165:13
 add-out : tie.Need-add-out Inv-loop μ-loop
 add-out c = omega arith
 
--- src/lib.rt:165:9
 slice-write-out : tie.Need-slice-write-out Inv-loop μ-loop
 slice-write-out c = omega arith
 
--- src/lib.rt:163:5
 loop-less : tie.Need-loop-less Inv-loop μ-loop
 loop-less c = omega arith
 
--- src/lib.rt:163:5
 loop-again : tie.Need-loop-again Inv-loop μ-loop
 loop-again c =
     let l = c .before .loop in
@@ -51,11 +42,9 @@ loop-again c =
       put-step (l .out) (a .at) (l .j - 1) (l .rest) (omega arith) ∙ ap (λ (m : ℕ). putAt (l .out) (a .at) m (l .rest)) e ∙ l .inv .2,
     )
 
--- src/lib.rt:157:1
 same-length : tie.Need-same-length Inv-loop μ-loop
 same-length c = c .before .loop .inv .1
 
--- src/lib.rt:157:1
 returns : tie.Need-returns Inv-loop μ-loop
 returns c =
     let l = c .before .loop in

@@ -6,16 +6,11 @@ use lib.Signed.{mag}
 use lib.IntN.{ℤ, pos, negsuc}
 use borrow.Author.Tests.{not-true, not-false}
 use mathlib.Core.Path.{_≡_, refl, sym, ap, subst, _∙_}
-use Prim.Native.Nat.{ℕ, _+_, _<_, _^_}
+use Prim.Native.Nat.{_+_, _<_, _^_}
 use native.Mathlib.Omega.{arith}
 use borrow.Author.Needs.{needs}
 use Rattle.number.proofs.call.call_index.Statement.{statement}
 use Rattle.number.proofs.call.call_index.Tie as tie
-use Rattle.number.proofs.call.call_index.Reads as reads
-use Rattle.number.proofs.call.call_index.Lts as lts
-use Rattle.number.proofs.call.units_of.Reads as units-of-reads
-use Rattle.number.proofs.signed.minus.Reads as minus-reads
-use Rattle.number.proofs.signed.split.Reads as split-reads
 
 -- where a half is bound: the value is of that half, and how large it is
 value-up : (c : tie.After-n) → c .before .before .before .before .before .before .args .o .value ≡ pos (c .n .given .0 .0)
@@ -37,79 +32,60 @@ units-up c = ap partOf (sym (c .q .given .1)) ∙ c .before .before .units-of .e
 units-down : (c : tie.After-q2) → accepted (c .q2 .given .0 .0) ≡ units (c .before .before .before .before .before .before .before .before .before .before .args .exact) (c .before .before .before .before .n2 .given .0 .0 + 1)
 units-down c = ap partOf (sym (c .q2 .given .1)) ∙ c .before .before .units-of2 .ensures
 
--- src/call.rt:32:9
 returns : tie.Need-returns
 returns c = an-integer _ _ (not-true _ (c .if1 .taken)) _ (moved (c .before .before .before .args .o .value) (omega arith) refl)
 
--- src/call.rt:34:11
 split-requires : tie.Need-split-requires
 split-requires c κs = search needs
 
--- src/call.rt:35:18
 enum-known-n : tie.Need-enum-known-n
 enum-known-n c = search needs
 
--- src/call.rt:36:34
 units-of-requires : tie.Need-units-of-requires
 units-of-requires c κs = search needs
 
--- src/call.rt:36:29
 enum-known-q : tie.Need-enum-known-q
 enum-known-q c = search needs
 
--- src/call.rt:37:17
 enum-told : tie.Need-enum-told
 enum-told c = search needs
 
--- src/call.rt:37:17
 returns-2 : tie.Need-returns-2
 returns-2 c = not-up _ _ (not-false _ (c .before .before .before .before .before .before .before .if1 .left)) _ (value-up (c .before .before .before .before)) (ap partOf (sym (c .enum-told .given .1)) ∙ c .before .before .units-of .ensures)
 
--- src/call.rt:39:29
 cast-minus : tie.Need-cast-minus
 cast-minus c = search needs
 
--- src/call.rt:39:23
 minus-requires : tie.Need-minus-requires
 minus-requires c κs = let e = units-are _ _ _ (units-up (c .before)) .1 in let h = below-up (c .before .before .before .before .before) in omega arith
 
--- src/call.rt:41:20
 enum-known-n-2 : tie.Need-enum-known-n-2
 enum-known-n-2 c = search needs
 
--- src/call.rt:42:43
 add-units-of : tie.Need-add-units-of
 add-units-of c = let h = below-down (c .before) in omega arith
 
--- src/call.rt:42:34
 units-of-requires-2 : tie.Need-units-of-requires-2
 units-of-requires-2 c κs = search needs
 
--- src/call.rt:42:29
 enum-known-q-2 : tie.Need-enum-known-q-2
 enum-known-q-2 c = search needs
 
--- src/call.rt:43:17
 enum-told-2 : tie.Need-enum-told-2
 enum-told-2 c = search needs
 
--- src/call.rt:43:17
 returns-3 : tie.Need-returns-3
 returns-3 c = not-down _ _ (not-false _ (c .before .before .before .before .before .before .before .if1 .left)) _ (value-down (c .before .before .before .before)) (ap partOf (sym (c .enum-told2 .given .1)) ∙ c .before .before .units-of2 .ensures)
 
--- src/call.rt:45:32
 cast-minus-2 : tie.Need-cast-minus-2
 cast-minus-2 c = search needs
 
--- src/call.rt:45:23
 minus-requires-2 : tie.Need-minus-requires-2
 minus-requires-2 c κs = let e = units-are _ _ _ (units-down (c .before)) .1 in let h = below-down (c .before .before .before .before .before) in omega arith
 
--- src/call.rt:27:1
 returns-4 : tie.Need-returns-4
 returns-4 c = is-up _ _ (not-false _ (c .before .before .before .before .before .before .before .before .before .if1 .left)) _ _ _ (value-up (c .before .before .before .before .before .before)) (units-up (c .before .before)) (moved (c .minus .result) (c .minus .ok) (c .minus .ensures ∙ less-none _))
 
--- src/call.rt:27:1
 returns-5 : tie.Need-returns-5
 returns-5 c = is-down _ _ (not-false _ (c .before .before .before .before .before .before .before .before .before .if1 .left)) _ _ _ (value-down (c .before .before .before .before .before .before)) (units-down (c .before .before)) (moved (c .minus2 .result) (c .minus2 .ok) (c .minus2 .ensures ∙ none-less (c .before .before .q2 .given .0 .0)))
 

@@ -2,17 +2,12 @@ use Rattle.number.proofs.Border.{up-is, down-is}
 use Rattle.number.specs.CallLaws.{not-whole, up-at, up-past, down-before, down-at, down-past}
 use Rattle.number.specs.Call.{callIndex, wholeOf}
 use Rattle.number.specs.Answer.{accepted}
-use lib.IntN.{ℤ, pos, negsuc}
-use mathlib.Core.Path.{_≡_, refl, sym, ap, _∙_}
+use lib.IntN.{pos, negsuc}
+use mathlib.Core.Path.{_≡_, sym, ap, _∙_}
 use native.Mathlib.Omega.{arith}
 use borrow.Author.Needs.{needs}
 use Rattle.number.proofs.call.callee_of.Statement.{statement}
 use Rattle.number.proofs.call.callee_of.Tie as tie
-use Rattle.number.proofs.call.callee_of.Reads as reads
-use Rattle.number.proofs.call.callee_of.Lts as lts
-use Rattle.number.proofs.call.bias.Reads as bias-reads
-use Rattle.number.proofs.call.call_index.Reads as call-index-reads
-use Rattle.number.proofs.signed.split.Reads as split-reads
 
 -- where the index is bound, and where its half is
 index-is : (c : tie.After-z) → accepted (c .z .given .0 .0) ≡ callIndex (c .before .before .before .args .exact) (c .before .before .before .args .o)
@@ -24,87 +19,66 @@ value-up c = up-is _ _ (omega arith) (c .before .before .split .ensures) (c .n .
 value-down : (c : tie.After-n2) → c .before .before .before .before .before .z .given .0 .0 ≡ negsuc (c .n2 .given .0 .0)
 value-down c = down-is _ _ (omega arith) (c .before .before .split .ensures) (c .n2 .given .1)
 
--- src/call.rt:54:24
 call-index-requires : tie.Need-call-index-requires
 call-index-requires c κs = search needs
 
--- src/call.rt:54:19
 enum-known-z : tie.Need-enum-known-z
 enum-known-z c = search needs
 
--- src/call.rt:55:9
 enum-told : tie.Need-enum-told
 enum-told c = search needs
 
--- src/call.rt:55:9
 returns : tie.Need-returns
 returns c = not-whole _ _ _ (ap wholeOf (sym (c .enum-told .given .1)) ∙ c .before .before .call-index .ensures)
 
--- src/call.rt:57:9
 bias-requires : tie.Need-bias-requires
 bias-requires c κs = search needs
 
--- src/call.rt:58:11
 split-requires : tie.Need-split-requires
 split-requires c κs = search needs
 
--- src/call.rt:59:18
 enum-known-n : tie.Need-enum-known-n
 enum-known-n c = search needs
 
--- src/call.rt:60:21
 cast-k : tie.Need-cast-k
 cast-k c = search needs
 
--- src/call.rt:60:32
 cast-k-2 : tie.Need-cast-k-2
 cast-k-2 c = search needs
 
--- src/call.rt:60:21
 add-k : tie.Need-add-k
 add-k c = search needs
 
--- src/call.rt:62:38
 cast-t15 : tie.Need-cast-t15
 cast-t15 c = search needs
 
--- src/call.rt:62:17
 returns-2 : tie.Need-returns-2
 returns-2 c = up-at _ _ _ (c .before .before .before .before .before .before .before .z .given .0 .0) (index-is (c .before .before .before .before .before .before .before)) _ (c .before .before .before .before .before .bias .ensures .0) _ (value-up (c .before .before)) (omega arith)
 
--- src/call.rt:66:20
 enum-known-n-2 : tie.Need-enum-known-n-2
 enum-known-n-2 c = search needs
 
--- src/call.rt:68:17
 returns-3 : tie.Need-returns-3
 returns-3 c = down-before _ _ _ (c .before .before .before .before .before .before .before .z .given .0 .0) (index-is (c .before .before .before .before .before .before .before)) _ (c .before .before .before .before .before .bias .ensures .0) _ (value-down (c .before .before)) (omega arith)
 
--- src/call.rt:70:16
 sub-if3 : tie.Need-sub-if3
 sub-if3 c = search needs
 
--- src/call.rt:70:16
 sub-if3-2 : tie.Need-sub-if3-2
 sub-if3-2 c = search needs
 
--- src/call.rt:71:38
 sub-t19 : tie.Need-sub-t19
 sub-t19 c = search needs
 
--- src/call.rt:71:38
 sub-t20 : tie.Need-sub-t20
 sub-t20 c = search needs
 
--- src/call.rt:71:17
 returns-4 : tie.Need-returns-4
 returns-4 c = down-at _ _ _ (c .before .before .before .before .before .before .before .before .z .given .0 .0) (index-is (c .before .before .before .before .before .before .before .before)) _ (c .before .before .before .before .before .before .bias .ensures .0) _ (value-down (c .before .before .before)) (omega arith) (omega arith)
 
--- src/call.rt:51:1
 returns-5 : tie.Need-returns-5
 returns-5 c = up-past _ _ _ (c .before .before .before .before .before .before .before .z .given .0 .0) (index-is (c .before .before .before .before .before .before .before)) _ (c .before .before .before .before .before .bias .ensures .0) _ (value-up (c .before .before)) (omega arith)
 
--- src/call.rt:51:1
 returns-6 : tie.Need-returns-6
 returns-6 c = down-past _ _ _ (c .before .before .before .before .before .before .before .before .z .given .0 .0) (index-is (c .before .before .before .before .before .before .before .before)) _ (c .before .before .before .before .before .before .bias .ensures .0) _ (value-down (c .before .before .before)) (omega arith) (omega arith)
 

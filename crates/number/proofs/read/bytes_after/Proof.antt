@@ -4,35 +4,25 @@ use native.Mathlib.Omega.{arith}
 use borrow.Author.Needs.{needs}
 use Rattle.number.proofs.read.bytes_after.Statement.{statement}
 use Rattle.number.proofs.read.bytes_after.Tie as tie
-use Rattle.number.proofs.read.bytes_after.Reads as reads
-use Rattle.number.proofs.read.bytes_after.Lts as lts
-use Rattle.number.proofs.read.five_byte_form.Reads as five-byte-form-reads
 
--- src/read.rt:63:9
 returns : tie.Need-returns
 returns c = after-short _ _ (omega arith)
 
--- src/read.rt:65:13
 five-byte-form-requires : tie.Need-five-byte-form-requires
 five-byte-form-requires c κs = search needs
 
--- src/read.rt:66:9
 returns-2 : tie.Need-returns-2
 returns-2 c = after-last _ _ (c .if2 .taken ∙ c .before .five-byte-form .ensures)
 
--- src/read.rt:69:9
 returns-3 : tie.Need-returns-3
 returns-3 c = after-low _ _ (c .before .before .before .if1 .left) (λ e. c .before .if2 .left (e ∙ sym (c .before .before .five-byte-form .ensures))) (omega arith)
 
--- src/read.rt:72:9
 returns-4 : tie.Need-returns-4
 returns-4 c = after-near _ _ (omega arith) (omega arith)
 
--- src/read.rt:75:9
 returns-5 : tie.Need-returns-5
 returns-5 c = after-pair _ _ (omega arith) (omega arith)
 
--- src/read.rt:59:1
 returns-6 : tie.Need-returns-6
 returns-6 c = after-high _ _ (λ e. c .before .before .before .if2 .left (e ∙ sym (c .before .before .before .before .five-byte-form .ensures))) (omega arith)
 

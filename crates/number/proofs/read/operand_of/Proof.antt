@@ -4,129 +4,96 @@ use Rattle.number.specs.Number.{pairOf}
 use Rattle.number.specs.SignedLaws.{less-none, none-less}
 use Rattle.number.specs.declared.Operand.{Operand}
 use lib.Dec.{lit≤}
-use mathlib.Core.Bool.{Bool, false}
-use lib.IntN.{ℤ, pos, negℤ}
-use mathlib.Core.Path.{_≡_, refl, sym, ap, _∙_}
+use mathlib.Core.Bool.{Bool}
+use lib.IntN.{ℤ}
+use mathlib.Core.Path.{_≡_, sym, _∙_}
 use native.Mathlib.Omega.{arith}
 use borrow.Author.Needs.{needs}
 use Rattle.number.proofs.read.operand_of.Statement.{statement}
 use Rattle.number.proofs.read.operand_of.Tie as tie
-use Rattle.number.proofs.read.operand_of.Reads as reads
-use Rattle.number.proofs.read.operand_of.Lts as lts
-use Rattle.number.proofs.read.five_byte_form.Reads as five-byte-form-reads
-use Rattle.number.proofs.read.integer.Reads as integer-reads
-use Rattle.number.proofs.signed.minus.Reads as minus-reads
-use Rattle.number.proofs.signed.signed_value.Reads as signed-value-reads
 
 -- two operands of one kind and one value
 valued : {t : Bool} {x y : ℤ} → x ≡ y → _≡_ {A = Operand} (record { fixed = t; value = x }) (record { fixed = t; value = y })
 valued {t} p = λ i. record { fixed = t; value = p i }
 
--- src/read.rt:93:24
 signed-value-requires : tie.Need-signed-value-requires
 signed-value-requires c κs = (lit≤ tt, short-lt (c .before .args .dict) (c .before .args .b) (c .before .args .v) (c .if1 .taken) (c .before .pre))
 
--- src/read.rt:93:9
 integer-requires : tie.Need-integer-requires
 integer-requires c κs = search needs
 
--- src/read.rt:93:9
 returns : tie.Need-returns
 returns c = c .integer .ensures ∙ valued (moved (c .before .signed-value .result) (c .before .signed-value .ok) (c .before .signed-value .ensures)) ∙ as-short _ _ _ (c .before .before .if1 .taken)
 
--- src/read.rt:95:13
 five-byte-form-requires : tie.Need-five-byte-form-requires
 five-byte-form-requires c κs = search needs
 
--- src/read.rt:98:20
 signed-value-requires-2 : tie.Need-signed-value-requires-2
 signed-value-requires-2 c κs = search needs
 
--- src/read.rt:96:9
 returns-2 : tie.Need-returns-2
 returns-2 c = valued (moved (c .signed-value2 .result) (c .signed-value2 .ok) (c .signed-value2 .ensures)) ∙ as-last _ _ _ (c .before .if2 .taken ∙ c .before .before .five-byte-form .ensures)
 
--- src/read.rt:102:9
 integer-requires-2 : tie.Need-integer-requires-2
 integer-requires-2 c κs = search needs
 
--- src/read.rt:102:9
 returns-3 : tie.Need-returns-3
 returns-3 c = c .integer2 .ensures ∙ as-low _ _ _ (c .before .before .before .before .if1 .left) (λ e. c .before .before .if2 .left (e ∙ sym (c .before .before .before .five-byte-form .ensures))) (omega arith)
 
--- src/read.rt:105:24
 minus-requires : tie.Need-minus-requires
 minus-requires c κs = search needs
 
--- src/read.rt:105:9
 integer-requires-3 : tie.Need-integer-requires-3
 integer-requires-3 c κs = search needs
 
--- src/read.rt:105:9
 returns-4 : tie.Need-returns-4
 returns-4 c = c .integer3 .ensures ∙ valued (moved (c .before .minus .result) (c .before .minus .ok) (c .before .minus .ensures)) ∙ as-near _ _ _ (omega arith) (omega arith)
 
--- src/read.rt:108:30
 cast-minus : tie.Need-cast-minus
 cast-minus c = search needs
 
--- src/read.rt:108:30
 mul-minus : tie.Need-mul-minus
 mul-minus c = search needs
 
--- src/read.rt:108:30
 add-minus : tie.Need-add-minus
 add-minus c = search needs
 
--- src/read.rt:108:30
 add-minus-2 : tie.Need-add-minus-2
 add-minus-2 c = search needs
 
--- src/read.rt:108:24
 minus-requires-2 : tie.Need-minus-requires-2
 minus-requires-2 c κs = let h = above-lt (c .before .before .before .before .before .before .args .dict) (c .before .before .before .before .before .before .args .b) (c .before .before .before .before .before .before .args .v) (omega arith) (omega arith) (c .before .before .before .before .before .before .pre) in omega arith
 
--- src/read.rt:108:9
 integer-requires-4 : tie.Need-integer-requires-4
 integer-requires-4 c κs = search needs
 
--- src/read.rt:108:9
 returns-5 : tie.Need-returns-5
 returns-5 c = c .integer4 .ensures ∙ valued (moved (c .before .minus2 .result) (c .before .minus2 .ok) (c .before .minus2 .ensures ∙ less-none _)) ∙ as-above _ _ _ (omega arith) (omega arith)
 
--- src/read.rt:111:33
 cast-minus-2 : tie.Need-cast-minus-2
 cast-minus-2 c = search needs
 
--- src/read.rt:111:33
 mul-minus-2 : tie.Need-mul-minus-2
 mul-minus-2 c = search needs
 
--- src/read.rt:111:33
 add-minus-3 : tie.Need-add-minus-3
 add-minus-3 c = search needs
 
--- src/read.rt:111:33
 add-minus-4 : tie.Need-add-minus-4
 add-minus-4 c = search needs
 
--- src/read.rt:111:24
 minus-requires-3 : tie.Need-minus-requires-3
 minus-requires-3 c κs = let h = below-lt (c .before .before .before .before .before .before .before .args .dict) (c .before .before .before .before .before .before .before .args .b) (c .before .before .before .before .before .before .before .args .v) (omega arith) (omega arith) (c .before .before .before .before .before .before .before .pre) in omega arith
 
--- src/read.rt:111:9
 integer-requires-5 : tie.Need-integer-requires-5
 integer-requires-5 c κs = search needs
 
--- src/read.rt:111:9
 returns-6 : tie.Need-returns-6
 returns-6 c = c .integer5 .ensures ∙ valued (moved (c .before .minus3 .result) (c .before .minus3 .ok) (c .before .minus3 .ensures ∙ none-less (pairOf 251 (c .before .before .before .before .before .before .before .before .before .args .b) (c .before .before .before .before .before .before .before .before .before .args .v)))) ∙ as-below _ _ _ (omega arith) (omega arith)
 
--- src/read.rt:113:5
 integer-requires-6 : tie.Need-integer-requires-6
 integer-requires-6 c κs = search needs
 
--- src/read.rt:88:1
 returns-7 : tie.Need-returns-7
 returns-7 c = c .integer6 .ensures ∙ as-high _ _ _ (λ e. c .before .before .before .before .before .if2 .left (e ∙ sym (c .before .before .before .before .before .before .five-byte-form .ensures))) (omega arith)
 

@@ -7,57 +7,41 @@ use native.Mathlib.Omega.{arith}
 use borrow.Author.Needs.{needs}
 use Rattle.number.proofs.read.read_number.Statement.{statement}
 use Rattle.number.proofs.read.read_number.Tie as tie
-use Rattle.number.proofs.read.read_number.Reads as reads
-use Rattle.number.proofs.read.read_number.Lts as lts
-use Rattle.number.proofs.big_endian.be.Reads as be-reads
-use Rattle.number.proofs.read.bytes_after.Reads as bytes-after-reads
-use Rattle.number.proofs.read.operand_of.Reads as operand-of-reads
 
 -- where the width is bound
 width-of : (c : tie.After-k) → c .k .given .0 .0 ≡ widthOf (rowOf (getD (c .before .before .before .before .before .before .args .s .now) 0 0) (rowsOf (c .before .before .before .before .before .before .args .dict)))
 width-of c = width-is _ _ (sym (c .k .given .1) ∙ c .before .before .bytes-after .ensures)
 
--- src/read.rt:40:9
 returns : tie.Need-returns
 returns c = read-none _ _ (c .if1 .taken)
 
--- src/read.rt:42:13
 shared-slice-read-b : tie.Need-shared-slice-read-b
 shared-slice-read-b c = search needs
 
--- src/read.rt:43:27
 bytes-after-requires : tie.Need-bytes-after-requires
 bytes-after-requires c κs = search needs
 
--- src/read.rt:43:22
 enum-known-k : tie.Need-enum-known-k
 enum-known-k c = search needs
 
--- src/read.rt:44:9
 enum-told : tie.Need-enum-told
 enum-told c = search needs
 
--- src/read.rt:44:9
 returns-2 : tie.Need-returns-2
 returns-2 c = by-none _ _ (sym (c .enum-told .given .1) ∙ c .before .before .bytes-after .ensures) ∙ read-some _ _ (c .before .before .before .before .if1 .left)
 
--- src/read.rt:47:9
 returns-3 : tie.Need-returns-3
 returns-3 c = by-short _ _ _ (sym (c .before .before .k .given .1) ∙ c .before .before .before .before .bytes-after .ensures) (c .if2 .taken) ∙ read-some _ _ (c .before .before .before .before .before .before .if1 .left)
 
--- src/read.rt:49:9
 be-requires : tie.Need-be-requires
 be-requires c κs = let e = width-of (c .before .before) in omega (arith, width-le (c .before .before .before .before .before .before .before .before .args .dict) (getD (c .before .before .before .before .before .before .before .before .args .s .now) 0 0))
 
--- src/read.rt:50:22
 operand-of-requires : tie.Need-operand-of-requires
 operand-of-requires c κs = rw (← width-of (c .before .before .before), c .be .ensures) (be-lt _ 1 _ (λ i. c .before .before .before .before .before .before .shared-slice-known2 .given i .fits))
 
--- src/read.rt:50:46
 add-t6 : tie.Need-add-t6
 add-t6 c = search needs
 
--- src/read.rt:36:1
 returns-4 : tie.Need-returns-4
 returns-4 c = by-row _ _ _ _ (sym (c .before .before .before .before .k .given .1) ∙ c .before .before .before .before .before .before .bytes-after .ensures) (c .before .before .if2 .left) (c .operand-of .ensures ∙ ap (operandOf (rowOf (getD (c .before .before .before .before .before .before .before .before .before .before .args .s .now) 0 0) (rowsOf (c .before .before .before .before .before .before .before .before .before .before .args .dict))) (getD (c .before .before .before .before .before .before .before .before .before .before .args .s .now) 0 0)) (c .before .be .ensures)) ∙ read-some _ _ (c .before .before .before .before .before .before .before .before .if1 .left)
 

@@ -3,31 +3,22 @@ use Rattle.number.proofs.Border.{up-is, down-is, bits-up, bits-down}
 use borrow.Author.Needs.{needs}
 use Rattle.number.proofs.signed.bits_of.Statement.{statement}
 use Rattle.number.proofs.signed.bits_of.Tie as tie
-use Rattle.number.proofs.signed.bits_of.Reads as reads
-use Rattle.number.proofs.signed.bits_of.Lts as lts
-use Rattle.number.proofs.signed.split.Reads as split-reads
 
--- src/signed.rt:61:11
 split-requires : tie.Need-split-requires
 split-requires c κs = search needs
 
--- src/signed.rt:62:18
 enum-known-n : tie.Need-enum-known-n
 enum-known-n c = search needs
 
--- src/signed.rt:63:20
 enum-known-n-2 : tie.Need-enum-known-n-2
 enum-known-n-2 c = search needs
 
--- src/signed.rt:63:26
 sub-result : tie.Need-sub-result
 sub-result c = search needs
 
--- src/signed.rt:58:1
 returns : tie.Need-returns
 returns c = bits-up _ _ (up-is _ _ (omega arith) (c .before .before .before .split .ensures) (c .before .n .given .1))
 
--- src/signed.rt:58:1
 returns-2 : tie.Need-returns-2
 returns-2 c = bits-down _ _ (down-is _ _ (omega arith) (c .before .before .before .split .ensures) (c .before .n2 .given .1))
 

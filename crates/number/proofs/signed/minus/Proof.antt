@@ -2,35 +2,25 @@ use Rattle.number.proofs.Border.{minus-up, minus-down}
 use borrow.Author.Needs.{needs}
 use Rattle.number.proofs.signed.minus.Statement.{statement}
 use Rattle.number.proofs.signed.minus.Tie as tie
-use Rattle.number.proofs.signed.minus.Reads as reads
-use Rattle.number.proofs.signed.minus.Lts as lts
-use Rattle.number.proofs.signed.down.Reads as down-reads
 
--- src/lib.rt:38:9
 cast-result : tie.Need-cast-result
 cast-result c = search needs
 
--- src/lib.rt:40:15
 sub-down : tie.Need-sub-down
 sub-down c = search needs
 
--- src/lib.rt:40:15
 sub-down-2 : tie.Need-sub-down-2
 sub-down-2 c = search needs
 
--- src/lib.rt:40:14
 cast-down : tie.Need-cast-down
 cast-down c = search needs
 
--- src/lib.rt:40:9
 down-requires : tie.Need-down-requires
 down-requires c κs = search needs
 
--- src/lib.rt:33:1
 returns : tie.Need-returns
 returns c = minus-up (c .before .args .p) (c .before .args .m) (search needs) (search needs)
 
--- src/lib.rt:33:1
 returns-2 : tie.Need-returns-2
 returns-2 c = minus-down (c .before .before .args .p) (c .before .before .args .m) (search needs) (c .down .result) (c .down .ensures) (search needs)
 

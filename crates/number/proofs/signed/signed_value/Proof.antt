@@ -6,28 +6,20 @@ use Rattle.number.specs.SignedLaws.{less-none}
 use borrow.Author.Needs.{needs}
 use Rattle.number.proofs.signed.signed_value.Statement.{statement}
 use Rattle.number.proofs.signed.signed_value.Tie as tie
-use Rattle.number.proofs.signed.signed_value.Reads as reads
-use Rattle.number.proofs.signed.signed_value.Lts as lts
-use Rattle.number.proofs.signed.minus.Reads as minus-reads
 
--- src/lib.rt:111:9
 minus-requires : tie.Need-minus-requires
 minus-requires c κs = search needs
 
--- src/lib.rt:113:18
 add-minus : tie.Need-add-minus
 add-minus c = search needs
 
--- src/lib.rt:113:9
 minus-requires-2 : tie.Need-minus-requires-2
 minus-requires-2 c κs = search needs
 
--- src/lib.rt:105:1
 returns : tie.Need-returns
 unfolding signed
 returns c = rw (lt-ltb _ _ (c .before .if1 .taken)) (moved (c .minus .result) (c .minus .ok) (c .minus .ensures ∙ less-none _))
 
--- src/lib.rt:105:1
 returns-2 : tie.Need-returns-2
 unfolding signed
 returns-2 c = rw (le-ltb _ _ (c .before .if1 .left)) (moved (c .minus2 .result) (c .minus2 .ok) (c .minus2 .ensures))

@@ -1,30 +1,22 @@
 use Rattle.number.proofs.Border.{more-fits, flip-fits, flipped-casts, flipped-half, kept-casts, kept-half}
 use Rattle.number.proofs.signed.split.Statement.{statement}
 use Rattle.number.proofs.signed.split.Tie as tie
-use Rattle.number.proofs.signed.split.Reads as reads
-use Rattle.number.proofs.signed.split.Lts as lts
 
--- src/lib.rt:18:23
 add-t4 : tie.Need-add-t4
 add-t4 c = more-fits (c .before .args .z) (c .before .fits .z) (c .if1 .taken)
 
--- src/lib.rt:18:21
 sub-t5 : tie.Need-sub-t5
 sub-t5 c = flip-fits (c .before .args .z) (c .before .fits .z) (c .if1 .taken)
 
--- src/lib.rt:18:20
 cast-t6 : tie.Need-cast-t6
 cast-t6 c = flipped-casts (c .before .args .z) (c .before .fits .z) (c .if1 .taken)
 
--- src/lib.rt:20:18
 cast-t7 : tie.Need-cast-t7
 cast-t7 c = kept-casts (c .before .args .z) (c .before .fits .z) (c .if1 .left)
 
--- src/lib.rt:14:1
 returns : tie.Need-returns
 returns c = flipped-half (c .before .args .z) (c .before .fits .z) (c .if1 .taken)
 
--- src/lib.rt:14:1
 returns-2 : tie.Need-returns-2
 returns-2 c = kept-half (c .before .args .z) (c .before .fits .z) (c .if1 .left)
 

@@ -4,29 +4,21 @@ use Rattle.number.specs.Written.{integer, spell}
 use Rattle.number.specs.Signed.{unsigned}
 use Rattle.number.specs.Number.{integerRows}
 use lib.IntN.{ℤ}
-use mathlib.Core.Path.{refl, sym, ap, _∙_}
+use mathlib.Core.Path.{refl, ap, _∙_}
 use native.Mathlib.Omega.{arith}
 use borrow.Author.Needs.{needs}
 use Rattle.number.proofs.write.charstring_form.Statement.{statement}
 use Rattle.number.proofs.write.charstring_form.Tie as tie
-use Rattle.number.proofs.write.charstring_form.Reads as reads
-use Rattle.number.proofs.write.charstring_form.Lts as lts
-use Rattle.number.proofs.signed.bits_of.Reads as bits-of-reads
-use Rattle.number.proofs.write.integer_form.Reads as integer-form-reads
 
--- src/write.rt:89:19
 bits-of-requires : tie.Need-bits-of-requires
 bits-of-requires c κs = search needs
 
--- src/write.rt:86:9
 returns : tie.Need-returns
 returns c = charstring-fixed (c .before .before .before .args .o) _ (c .before .before .if1 .taken) (omega arith) (c .bits-of .ensures ∙ ap (unsigned 2147483648) (moved (c .before .before .before .args .o .value) (omega arith) refl))
 
--- src/write.rt:92:5
 integer-form-requires : tie.Need-integer-form-requires
 integer-form-requires c κs = search needs
 
--- src/write.rt:82:1
 returns-2 : tie.Need-returns-2
 returns-2 c = charstring-integer (c .before .before .before .args .o) (c .integer-form .result) (c .before .before .if1 .left) (c .integer-form .ensures ∙ ap (λ (z : ℤ). spell integerRows (integer z)) (moved (c .before .before .before .args .o .value) (omega arith) refl))
 

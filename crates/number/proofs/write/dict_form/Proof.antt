@@ -10,32 +10,22 @@ use native.Mathlib.Omega.{arith}
 use borrow.Author.Needs.{needs}
 use Rattle.number.proofs.write.dict_form.Statement.{statement}
 use Rattle.number.proofs.write.dict_form.Tie as tie
-use Rattle.number.proofs.write.dict_form.Reads as reads
-use Rattle.number.proofs.write.dict_form.Lts as lts
-use Rattle.number.proofs.signed.bits_of.Reads as bits-of-reads
-use Rattle.number.proofs.write.integer_form.Reads as integer-form-reads
 
--- src/write.rt:98:27
 integer-form-requires : tie.Need-integer-form-requires
 integer-form-requires c κs = search needs
 
--- src/write.rt:98:19
 enum-known-form : tie.Need-enum-known-form
 enum-known-form c = search needs
 
--- src/write.rt:102:19
 enum-told : tie.Need-enum-told
 enum-told c = search needs
 
--- src/write.rt:102:19
 bits-of-requires : tie.Need-bits-of-requires
 bits-of-requires c κs = search needs
 
--- src/write.rt:99:9
 returns : tie.Need-returns
 returns c = dict-five (c .before .before .before .before .args .z) _ (omega arith) (c .bits-of .ensures ∙ ap (unsigned 2147483648) (moved (c .before .before .before .before .args .z) (omega arith) refl)) (ap coded (sym (c .before .enum-told .given .1)) ∙ c .before .before .before .integer-form .ensures ∙ ap (λ (z : ℤ). spell integerRows (integer z)) (moved (c .before .before .before .before .args .z) (omega arith) refl))
 
--- src/write.rt:95:1
 returns-2 : tie.Need-returns-2
 returns-2 c = table-left (integer (c .before .before .before .before .args .z)) true (c .before .form .given .0 .0) (ap coded (sym (c .before .form .given .1)) ∙ c .before .before .before .integer-form .ensures ∙ ap (λ (z : ℤ). spell integerRows (integer z)) (moved (c .before .before .before .before .args .z) (omega arith) refl))
 

@@ -4,55 +4,40 @@ use native.Mathlib.Omega.{arith}
 use borrow.Author.Needs.{needs}
 use Rattle.number.proofs.write.down_form.Statement.{statement}
 use Rattle.number.proofs.write.down_form.Tie as tie
-use Rattle.number.proofs.write.down_form.Reads as reads
-use Rattle.number.proofs.write.down_form.Lts as lts
-use Rattle.number.proofs.write.form_of.Reads as form-of-reads
 
--- src/write.rt:139:25
 sub-form-of : tie.Need-sub-form-of
 sub-form-of c = search needs
 
--- src/write.rt:139:24
 cast-form-of : tie.Need-cast-form-of
 cast-form-of c = search needs
 
--- src/write.rt:139:9
 form-of-requires : tie.Need-form-of-requires
 form-of-requires c κs = search needs
 
--- src/write.rt:139:9
 returns : tie.Need-returns
 returns c = ap coded (c .form-of .ensures) ∙ down-one _ (omega arith)
 
--- src/write.rt:142:25
 add-form-of : tie.Need-add-form-of
 add-form-of c = search needs
 
--- src/write.rt:142:24
 cast-form-of-2 : tie.Need-cast-form-of-2
 cast-form-of-2 c = search needs
 
--- src/write.rt:142:9
 form-of-requires-2 : tie.Need-form-of-requires-2
 form-of-requires-2 c κs = search needs
 
--- src/write.rt:142:9
 returns-2 : tie.Need-returns-2
 returns-2 c = ap coded (c .form-of2 .ensures) ∙ down-two _ (omega arith) (omega arith)
 
--- src/write.rt:145:31
 sub-form-of-2 : tie.Need-sub-form-of-2
 sub-form-of-2 c = search needs
 
--- src/write.rt:145:9
 form-of-requires-3 : tie.Need-form-of-requires-3
 form-of-requires-3 c κs = search needs
 
--- src/write.rt:145:9
 returns-3 : tie.Need-returns-3
 returns-3 c = ap coded (c .form-of3 .ensures) ∙ down-three _ (omega arith) (omega arith)
 
--- src/write.rt:135:1
 returns-4 : tie.Need-returns-4
 returns-4 c = down-none _ (omega arith)
 

@@ -5,27 +5,19 @@ use native.Mathlib.Omega.{arith}
 use borrow.Author.Needs.{needs}
 use Rattle.number.proofs.write.store.Statement.{statement}
 use Rattle.number.proofs.write.store.Tie as tie
-use Rattle.number.proofs.write.store.Reads as reads
-use Rattle.number.proofs.write.store.Lts as lts
-use Rattle.number.proofs.big_endian.put_be.Reads as put-be-reads
 
--- src/write.rt:75:9
 returns : tie.Need-returns
 returns c = store-short _ _ (c .if1 .taken)
 
--- src/write.rt:77:5
 slice-write-out : tie.Need-slice-write-out
 slice-write-out c = search needs
 
--- src/write.rt:78:5
 put-be-requires : tie.Need-put-be-requires
 put-be-requires c κs = simp length-set (omega arith)
 
--- src/write.rt:69:1
 same-length : tie.Need-same-length
 same-length c = c .before .before .put-be .kept .0 ∙ simp length-set
 
--- src/write.rt:69:1
 returns-2 : tie.Need-returns-2
 returns-2 c = store-done _ _ (omega arith) _ (c .before .before .put-be .ensures)
 

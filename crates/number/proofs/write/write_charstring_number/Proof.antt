@@ -8,52 +8,38 @@ use native.Mathlib.Omega.{arith}
 use borrow.Author.Needs.{needs}
 use Rattle.number.proofs.write.write_charstring_number.Statement.{statement}
 use Rattle.number.proofs.write.write_charstring_number.Tie as tie
-use Rattle.number.proofs.write.write_charstring_number.Reads as reads
-use Rattle.number.proofs.write.write_charstring_number.Lts as lts
-use Rattle.number.proofs.write.charstring_form.Reads as charstring-form-reads
-use Rattle.number.proofs.write.store.Reads as store-reads
 
 -- where the form is bound
 formed : (c : tie.After-form) → accepted (c .form .given .0 .0) ≡ spell charstringRows (c .before .before .before .before .args .o)
 formed c = ap coded (sym (c .form .given .1)) ∙ c .before .before .charstring-form .ensures
 
--- src/write.rt:34:27
 charstring-form-requires : tie.Need-charstring-form-requires
 charstring-form-requires c κs = search needs
 
--- src/write.rt:34:19
 enum-known-form : tie.Need-enum-known-form
 enum-known-form c = search needs
 
--- src/write.rt:35:9
 enum-told : tie.Need-enum-told
 enum-told c = search needs
 
--- src/write.rt:35:9
 returns : tie.Need-returns
 returns c = write-refused _ _ _ (ap coded (sym (c .enum-told .given .1)) ∙ c .before .before .charstring-form .ensures)
 
--- src/write.rt:37:18
 add-length : tie.Need-add-length
 add-length c = let h = after-le false (c .before .before .before .before .before .before .args .o) (c .before .before .form .given .0 .0) (formed (c .before .before)) in omega arith
 
--- src/write.rt:38:8
 store-requires : tie.Need-store-requires
 store-requires c κs = after-le false (c .before .before .before .before .before .before .before .args .o) (c .before .before .before .form .given .0 .0) (formed (c .before .before .before))
 
--- src/write.rt:39:9
 same-length : tie.Need-same-length
 same-length c = search needs
 
--- src/write.rt:39:9
 returns-2 : tie.Need-returns-2
 returns-2 c = write-stored _ _ _ _ _ _ (formed (c .before .before .before .before .before .before .before)) (c .before .before .before .store .ensures) (c .if1 .taken)
 
--- src/write.rt:31:1
 same-length-2 : tie.Need-same-length-2
 same-length-2 c = search needs
 
--- src/write.rt:31:1
 returns-3 : tie.Need-returns-3
 returns-3 c = write-short _ _ _ _ _ _ (formed (c .before .before .before .before .before .before .before)) (c .before .before .before .store .ensures) (c .if1 .left)
 

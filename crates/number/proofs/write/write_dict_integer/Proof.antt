@@ -10,40 +10,29 @@ use native.Mathlib.Omega.{arith}
 use borrow.Author.Needs.{needs}
 use Rattle.number.proofs.write.write_dict_integer.Statement.{statement}
 use Rattle.number.proofs.write.write_dict_integer.Tie as tie
-use Rattle.number.proofs.write.write_dict_integer.Reads as reads
-use Rattle.number.proofs.write.write_dict_integer.Lts as lts
-use Rattle.number.proofs.write.dict_form.Reads as dict-form-reads
-use Rattle.number.proofs.write.store.Reads as store-reads
 
 -- where the form is known
 formed : (c : tie.After-dict-form) → accepted (c .dict-form .result) ≡ spell dictRows (integer (c .before .before .args .z))
 formed c = c .dict-form .ensures ∙ ap (λ (z : ℤ). spell dictRows (integer z)) (moved (c .before .before .args .z) (omega arith) refl)
 
--- src/write.rt:48:9
 dict-form-requires : tie.Need-dict-form-requires
 dict-form-requires c κs = search needs
 
--- src/write.rt:49:18
 add-length : tie.Need-add-length
 add-length c = let h = after-le true (integer (c .before .before .before .args .z)) (c .before .dict-form .result) (formed (c .before)) in omega arith
 
--- src/write.rt:50:8
 store-requires : tie.Need-store-requires
 store-requires c κs = after-le true (integer (c .before .before .before .before .args .z)) (c .before .before .dict-form .result) (formed (c .before .before))
 
--- src/write.rt:51:9
 same-length : tie.Need-same-length
 same-length c = search needs
 
--- src/write.rt:51:9
 returns : tie.Need-returns
 returns c = write-stored _ _ _ _ _ _ (formed (c .before .before .before .before .before .before)) (c .before .before .before .store .ensures) (c .if1 .taken)
 
--- src/write.rt:45:1
 same-length-2 : tie.Need-same-length-2
 same-length-2 c = search needs
 
--- src/write.rt:45:1
 returns-2 : tie.Need-returns-2
 returns-2 c = write-short _ _ _ _ _ _ (formed (c .before .before .before .before .before .before)) (c .before .before .before .store .ensures) (c .if1 .left)
 
