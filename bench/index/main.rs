@@ -111,16 +111,17 @@ fn measure(size: u8, bytes: &[u8], passes: u32) {
             }
         },
     );
+    let each_entry = || {
+        for &i in &numbers {
+            black_box(entry(black_box(bytes), i));
+        }
+    };
     row(
         size,
         "an entry, from the bytes",
         ENTRIES,
         passes,
-        || {
-            for &i in &numbers {
-                black_box(entry(black_box(bytes), i));
-            }
-        },
+        each_entry,
         || {
             for &i in &numbers {
                 black_box(parsed(black_box(bytes)).get(i));
@@ -132,11 +133,7 @@ fn measure(size: u8, bytes: &[u8], passes: u32) {
         "an entry, where the Rust has read the INDEX before",
         ENTRIES,
         passes,
-        || {
-            for &i in &numbers {
-                black_box(entry(black_box(bytes), i));
-            }
-        },
+        each_entry,
         || {
             for &i in &numbers {
                 black_box(black_box(&index).get(i));

@@ -21,43 +21,27 @@ pub struct Group {
     pub random: fn(u8, &mut Random) -> Record,
 }
 
+macro_rules! group {
+    ($module:ident, $sample:expr, $exhaustive:expr) => {
+        Group {
+            operations: &$module::OPERATIONS,
+            answers: &$module::ANSWERS,
+            line: $module::line,
+            listed: $module::inputs::listed,
+            sample: $sample,
+            one_of_each: $module::inputs::one_of_each,
+            beyond: $module::inputs::beyond,
+            longest: $module::inputs::longest,
+            exhaustive: $exhaustive,
+            random: $module::inputs::random,
+        }
+    };
+}
+
 pub const GROUPS: [Group; 3] = [
-    Group {
-        operations: &number::OPERATIONS,
-        answers: &number::ANSWERS,
-        line: number::line,
-        listed: number::inputs::listed,
-        sample: 2000,
-        one_of_each: number::inputs::one_of_each,
-        beyond: number::inputs::beyond,
-        longest: number::inputs::longest,
-        exhaustive: Vec::new,
-        random: number::inputs::random,
-    },
-    Group {
-        operations: &index::OPERATIONS,
-        answers: &index::ANSWERS,
-        line: index::line,
-        listed: index::inputs::listed,
-        sample: 500,
-        one_of_each: index::inputs::one_of_each,
-        beyond: index::inputs::beyond,
-        longest: index::inputs::longest,
-        exhaustive: index::inputs::exhaustive,
-        random: index::inputs::random,
-    },
-    Group {
-        operations: &flattening::OPERATIONS,
-        answers: &flattening::ANSWERS,
-        line: flattening::line,
-        listed: flattening::inputs::listed,
-        sample: 500,
-        one_of_each: flattening::inputs::one_of_each,
-        beyond: flattening::inputs::beyond,
-        longest: flattening::inputs::longest,
-        exhaustive: flattening::inputs::exhaustive,
-        random: flattening::inputs::random,
-    },
+    group!(number, 2000, Vec::new),
+    group!(index, 500, index::inputs::exhaustive),
+    group!(flattening, 500, flattening::inputs::exhaustive),
 ];
 
 /// The group that has an operation.
