@@ -1,117 +1,70 @@
--- What `kind_of` answers, of the table of the bytes below 32. Assumes nothing.
-use mathlib.Core.Path.{_≡_, refl, sym, ap, _∙_}
-use mathlib.Core.Bool.{Bool, true, false, cond, _&&_}
-use mathlib.Core.List.{List, [], _∷_}
+-- What `kind_of` answers. Assumes nothing.
+use mathlib.Core.Path.{_≡_, refl, ap, _∙_}
+use mathlib.Core.Bool.{true, false}
 use Prim.Native.Nat.{ℕ, zero, suc, _+_, _-_, _<_, _≤_}
-use native.Mathlib.Nat.{add-zero, add-suc, suc-add, zero-add, le-of-suc-le-suc, not-suc-le-zero}
+use native.Mathlib.Decide.{decLt}
 use native.Mathlib.Omega.{arith}
-use lib.Dec.{eqb}
-use lib.ListN.{length, getD}
-use borrow.Author.Tests.{ne-eqb, eqb-true}
-use Rattle.number.specs.BigEndianLaws.{both}
+use lib.Dec.{eqb, lit≤}
+use borrow.Author.Tests.{ne-eqb}
 use Rattle.reading.specs.Rules.{type2, plainKind, escapedKind}
 use Rattle.reading.specs.declared.Operator.{Operator}
-use Rattle.reading.specs.declared.Which.the-variants.{Local, Global}
 use Rattle.reading.specs.declared.Kind.{Kind}
-use Rattle.reading.specs.declared.Kind.the-variants.{Stem, Clear, Mask, Call, Return, End, Unknown}
+use Rattle.reading.specs.declared.Kind.the-variants.{Clear, Unknown}
 
--- the table, as the code has it
-abbrev pub kinds : List ℕ
-kinds = 0 ∷ 1 ∷ 0 ∷ 1 ∷ 2 ∷ 2 ∷ 2 ∷ 2 ∷ 2 ∷ 0 ∷ 4 ∷ 6 ∷ 0 ∷ 0 ∷ 7 ∷ 0 ∷ 0 ∷ 0 ∷ 1 ∷ 3 ∷ 3 ∷ 2 ∷ 2 ∷ 1 ∷ 2 ∷ 2 ∷ 2 ∷ 2 ∷ 0 ∷ 5 ∷ 2 ∷ 2 ∷ []
+-- whether the n bytes from i on are all of one kind
+abbrev Alike : Kind → ℕ → ℕ → Type 0
+Alike k i zero = Unit {0}
+Alike k i (suc n) = (k ≡ plainKind i) × Alike k (suc i) n
 
--- the number that stands for a kind, and the kind of a number
-abbrev code : Kind → ℕ
-code Unknown = 0
-code Stem = 1
-code Clear = 2
-code Mask = 3
-code (Call Local) = 4
-code (Call Global) = 5
-code Return = 6
-code End = 7
-
-abbrev pub kindFor : ℕ → Kind
-kindFor n =
-    cond (eqb n 1) Stem
-    (cond (eqb n 2) Clear
-    (cond (eqb n 3) Mask
-    (cond (eqb n 4) (Call Local)
-    (cond (eqb n 5) (Call Global)
-    (cond (eqb n 6) Return
-    (cond (eqb n 7) End Unknown))))))
-
-undone : (k : Kind) → kindFor (code k) ≡ k
-undone Unknown = refl
-undone Stem = refl
-undone Clear = refl
-undone Mask = refl
-undone (Call Local) = refl
-undone (Call Global) = refl
-undone Return = refl
-undone End = refl
-
--- whether each entry of a list, counted from i, is the number of the byte at its place
-abbrev rightly : ℕ → List ℕ → Bool
-rightly i [] = true
-rightly i (x ∷ xs) = eqb x (code (plainKind i)) && rightly (suc i) xs
-
-right : (xs : List ℕ) (i : ℕ) → rightly i xs ≡ true → (k : ℕ) → k < length xs → getD xs k 0 ≡ code (plainKind (i + k))
-right [] i t k h = absurd (not-suc-le-zero h)
-right (x ∷ xs) i t zero h =
-    eqb-true x (code (plainKind i)) (both (eqb x (code (plainKind i))) (rightly (suc i) xs) t .0) ∙ ap (λ (m : ℕ). code (plainKind m)) (sym (add-zero i))
-right (x ∷ xs) i t (suc k) h =
-    right xs (suc i) (both (eqb x (code (plainKind i))) (rightly (suc i) xs) t .1) k (le-of-suc-le-suc h)
-    ∙ ap (λ (m : ℕ). code (plainKind m)) (suc-add i k ∙ sym (add-suc i k))
-
-all-right : rightly 0 kinds ≡ true
-unfolding plainKind
-all-right = refl
-
-module _ (b n : ℕ) where
-  -- an entry of the table is told by its number
-  pub told : b ≤ 31 → getD kinds b 0 ≡ n → kindFor n ≡ plainKind b
-  told h e =
-      ap kindFor (sym e ∙ right kinds 0 all-right b (omega arith))
-      ∙ undone (plainKind (0 + b))
-      ∙ ap plainKind (zero-add b)
-
-  pub told-rest : b ≤ 31 → getD kinds b 0 ≡ n → (n ≡ 1 → ⊥) → (n ≡ 2 → ⊥) → (n ≡ 3 → ⊥) → (n ≡ 4 → ⊥) → (n ≡ 5 → ⊥) → (n ≡ 6 → ⊥) → (n ≡ 7 → ⊥)
-      → Unknown ≡ plainKind b
-  told-rest h e n₁ n₂ n₃ n₄ n₅ n₆ n₇ =
-      rw (ne-eqb n 1 n₁, ne-eqb n 2 n₂, ne-eqb n 3 n₃, ne-eqb n 4 n₄, ne-eqb n 5 n₅, ne-eqb n 6 n₆, ne-eqb n 7 n₇) at (told h e)
-
--- the code of a byte that is not in the table
-pub past-table : (b : ℕ) → 31 < b → Unknown ≡ plainKind b
-unfolding plainKind
-past-table b h =
-    simp (
-      out 1 (omega arith),
-      out 3 (omega arith),
-      out 18 (omega arith),
-      out 23 (omega arith),
-      out 4 (omega arith),
-      out 5 (omega arith),
-      out 6 (omega arith),
-      out 7 (omega arith),
-      out 8 (omega arith),
-      out 21 (omega arith),
-      out 22 (omega arith),
-      out 24 (omega arith),
-      out 25 (omega arith),
-      out 26 (omega arith),
-      out 27 (omega arith),
-      out 30 (omega arith),
-      out 31 (omega arith),
-      out 19 (omega arith),
-      out 20 (omega arith),
-      out 10 (omega arith),
-      out 29 (omega arith),
-      out 11 (omega arith),
-      out 14 (omega arith),
-    )
+pub among-alike : (k : Kind) (i n : ℕ) → Alike k i n → (b : ℕ) → i ≤ b → b < i + n → k ≡ plainKind b
+among-alike k i zero a b h l = absurd (omega arith)
+among-alike k i (suc n) a b h l = go (decLt i b) (among-alike k (suc i) n (a .1) b)
   where
-    out : (k : ℕ) → k < b → eqb b k ≡ false
-    out k l = ne-eqb b k (λ e. omega arith)
+    go : Dec (i < b) → (suc i ≤ b → b < suc i + n → k ≡ plainKind b) → k ≡ plainKind b
+    go (yes m) f = f (omega arith) (omega arith)
+    go (no m) f = let e : i ≡ b = omega arith in a .0 ∙ ap plainKind e
+
+pub after-first : (k : Kind) (i n : ℕ) → Alike k (suc i) n → (b : ℕ) → i ≤ b → (b ≡ i → ⊥) → b < suc i + n → k ≡ plainKind b
+after-first k i n a b h m l = go (decLt i b)
+  where
+    go : Dec (i < b) → k ≡ plainKind b
+    go (yes f) = among-alike k (suc i) n a b (omega arith) l
+    go (no f) = absurd (m (omega arith))
+
+-- a byte that is none of the operators
+module _ (b : ℕ) where
+  pub unknown : (b ≡ 1 → ⊥) → (b ≡ 3 → ⊥) → (b ≡ 10 → ⊥) → (b ≡ 11 → ⊥) → (b ≡ 14 → ⊥) → (b ≡ 18 → ⊥) → (b ≡ 23 → ⊥) → (b ≡ 29 → ⊥)
+      → (4 ≤ b → b ≤ 8 → ⊥) → (19 ≤ b → b ≤ 22 → ⊥) → (24 ≤ b → b ≤ 27 → ⊥) → (30 ≤ b → b ≤ 31 → ⊥) → Unknown ≡ plainKind b
+  unfolding plainKind
+  unknown n₁ n₃ n₁₀ n₁₁ n₁₄ n₁₈ n₂₃ n₂₉ r₄ r₁₉ r₂₄ r₃₀ =
+      simp (
+        ne-eqb b 1 n₁,
+        ne-eqb b 3 n₃,
+        ne-eqb b 10 n₁₀,
+        ne-eqb b 11 n₁₁,
+        ne-eqb b 14 n₁₄,
+        ne-eqb b 18 n₁₈,
+        ne-eqb b 23 n₂₃,
+        ne-eqb b 29 n₂₉,
+        out 4 4 8 r₄ (lit≤ tt) (lit≤ tt),
+        out 5 4 8 r₄ (lit≤ tt) (lit≤ tt),
+        out 6 4 8 r₄ (lit≤ tt) (lit≤ tt),
+        out 7 4 8 r₄ (lit≤ tt) (lit≤ tt),
+        out 8 4 8 r₄ (lit≤ tt) (lit≤ tt),
+        out 19 19 22 r₁₉ (lit≤ tt) (lit≤ tt),
+        out 20 19 22 r₁₉ (lit≤ tt) (lit≤ tt),
+        out 21 19 22 r₁₉ (lit≤ tt) (lit≤ tt),
+        out 22 19 22 r₁₉ (lit≤ tt) (lit≤ tt),
+        out 24 24 27 r₂₄ (lit≤ tt) (lit≤ tt),
+        out 25 24 27 r₂₄ (lit≤ tt) (lit≤ tt),
+        out 26 24 27 r₂₄ (lit≤ tt) (lit≤ tt),
+        out 27 24 27 r₂₄ (lit≤ tt) (lit≤ tt),
+        out 30 30 31 r₃₀ (lit≤ tt) (lit≤ tt),
+        out 31 30 31 r₃₀ (lit≤ tt) (lit≤ tt),
+      )
+    where
+      out : (k low high : ℕ) → (low ≤ b → b ≤ high → ⊥) → low ≤ k → k ≤ high → eqb b k ≡ false
+      out k low high r l h = ne-eqb b k (λ e. r (omega arith) (omega arith))
 
 -- ---- behind the escape byte
 

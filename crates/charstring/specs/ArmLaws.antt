@@ -104,7 +104,7 @@ module _ (cs globals locals : List ℕ) (by : Limits) (levels : ℕ) (s₀ : Sta
     abbrev Asks : Request → Type 0
     Asks x = Looked cs i (by .budget) (length stack) (by .hints) (s .tokens) (s .count) (s .hints) (s .mask) x
 
-    pub arm-push : (o : Operand) (j w e : ℕ) (out₁ : List ℕ) → Asks (Push o j) → unpackOf w ≡ o → out₁ ≡ puts (by .stored) (s .length) (spelling charstringRows o) out
+    pub arm-push : (o : Operand) (j w e : ℕ) (out₁ : List ℕ) → Asks (Push j o) → unpackOf w ≡ o → out₁ ≡ puts (by .stored) (s .length) (spelling charstringRows o) out
         → e ≡ s .length + length (spelling charstringRows o)
         → Stands (set stack (s .count) w) out₁ (record { count = s .count + 1; tail = s .tail + 1; hints = s .hints; mask = s .mask; tokens = s .tokens + 1; length = e }) j
     arm-push o j w e out₁ a u d q = λ rules r t₀ p.
@@ -112,14 +112,14 @@ module _ (cs globals locals : List ℕ) (by : Limits) (levels : ℕ) (s₀ : Sta
         o j w out₁ _ (a .0) (a .1) (a .2) u d
         (ap (λ (n : ℕ). record { count = s .count + 1; tail = s .tail + 1; hints = s .hints; mask = s .mask; tokens = s .tokens + 1; length = n }) q)
 
-    pub arm-plain : (o : Operator) (j x e : ℕ) (out₁ : List ℕ) → Asks (Shows o j x) → out₁ ≡ puts (by .stored) (s .length) (operatorBytes o) out
+    pub arm-plain : (o : Operator) (j x e : ℕ) (out₁ : List ℕ) → Asks (Shows j x o) → out₁ ≡ puts (by .stored) (s .length) (operatorBytes o) out
         → e ≡ s .length + length (operatorBytes o)
         → Stands stack out₁ (record { count = 0; tail = 0; hints = x; mask = s .mask; tokens = s .tokens + 1; length = e }) j
     arm-plain o j x e out₁ a d q = λ rules r t₀ p.
         by-plain rules lists plain cs (h .bytes) (by .budget) levels (by .stored) (by .hints) (by .exact) t₀ out₀ stack out s i (ruled-now rules r) fits (h .stands rules r t₀ p)
         o j x out₁ _ (a .0) (a .1) d (ap (λ (n : ℕ). record { count = 0; tail = 0; hints = x; mask = s .mask; tokens = s .tokens + 1; length = n }) q)
 
-    pub arm-mask : (o : Operator) (b d c x e₁ e : ℕ) (out₁ out₂ : List ℕ) → Asks (Mask o b d c x) → out₁ ≡ puts (by .stored) (s .length) (operatorBytes o) out
+    pub arm-mask : (o : Operator) (b d c x e₁ e : ℕ) (out₁ out₂ : List ℕ) → Asks (Mask b d c x o) → out₁ ≡ puts (by .stored) (s .length) (operatorBytes o) out
         → e₁ ≡ s .length + length (operatorBytes o) → out₂ ≡ puts (by .stored) e₁ (take (d - b) (drop b cs)) out₁ → e ≡ e₁ + (d - b)
         → Stands stack out₂ (record { count = c; tail = 0; hints = x; mask = d - b; tokens = s .tokens + 1; length = e }) d
     arm-mask o b d c x e₁ e out₁ out₂ a w₁ q₁ w₂ q = λ rules r t₀ p.
@@ -160,7 +160,7 @@ module _ (cs globals locals : List ℕ) (by : Limits) (levels : ℕ) (s₀ : Sta
     count-is Local = h .setting .local-count
     count-is Global = h .setting .global-count
 
-    module _ (w : Which) (j : ℕ) (a : Asks (Call w j)) where
+    module _ (w : Which) (j : ℕ) (a : Asks (Call j w)) where
       -- its operand, its list, and what was aimed at
       abbrev operand-of : Operand
       operand-of = unpackOf (getD stack (s .count - 1) 0)

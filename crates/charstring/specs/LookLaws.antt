@@ -142,16 +142,16 @@ module _ (cs : List ℕ) (i budget operands limit tokens count hints mask : ℕ)
       -- what its operator asks for, the token asks for
       pub asked : (x : Request) → Asked (length cs) j p limit count hints mask x → Looks x
       unfolding onCut
-      asked (Push o k) a = absurd a
-      asked (Plain q k x) a =
+      asked (Push k o) a = absurd a
+      asked (Plain k x q) a =
           subst (λ (y : Operator). AtOperator cs i k tokens budget y × Hinted limit count hints y x) (sym (a .0))
           (subst (λ (y : ℕ). AtOperator cs i y tokens budget p × Hinted limit count hints p x) (sym (a .1)) (here, a .2))
-      asked (Masking q b d c x) a = at-mask q b d c x (a .0) (a .1) (a .2) (a .3) (a .4) (a .5) (a .6)
+      asked (Masking b d c x q) a = at-mask q b d c x (a .0) (a .1) (a .2) (a .3) (a .4) (a .5) (a .6)
         where
-          at-mask : (q : Operator) (b d c x : ℕ) → q ≡ p → b ≡ j → type2 p ≡ Mask → x ≤ limit → j ≤ d → d ≤ length cs → Fixed count hints mask c x (d - j) → Looks (Masking q b d c x)
+          at-mask : (q : Operator) (b d c x : ℕ) → q ≡ p → b ≡ j → type2 p ≡ Mask → x ≤ limit → j ≤ d → d ≤ length cs → Fixed count hints mask c x (d - j) → Looks (Masking b d c x q)
           at-mask q b d c x eq eb k m n o f =
-              subst (λ (y : Operator). Looks (Masking y b d c x)) (sym eq) (subst (λ (y : ℕ). Looks (Masking p y d c x)) (sym eb) (here, k, m, n, o, f))
-      asked (Calling w k) a = subst (λ (y : ℕ). Looks (Calling w y)) (sym (a .0)) (p, here, a .1, a .2)
+              subst (λ (y : Operator). Looks (Masking b d c x y)) (sym eq) (subst (λ (y : ℕ). Looks (Masking y d c x p)) (sym eb) (here, k, m, n, o, f))
+      asked (Calling k w) a = subst (λ (y : ℕ). Looks (Calling y w)) (sym (a .0)) (p, here, a .1, a .2)
       asked Returning a = (p, j, here, a)
       asked (Finish q) a = subst (λ (y : Operator). Looks (Finish y)) (sym (a .0)) (j, here, a .1, a .2)
       asked Out a = absurd a

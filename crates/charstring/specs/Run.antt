@@ -72,10 +72,10 @@ module _ (n j : ℕ) (p : Operator) (limit count hints mask : ℕ) where
         → Counts t tokens count hints mask → length rest ≡ n - j → onOperator rules lists levels at rest t p (rules .kind p) ≡ refuse k t
 
   abbrev pub Asked : Request → Type 0
-  Asked (Push o k) = ⊥
-  Asked (Plain q k h) = (q ≡ p) × (k ≡ j) × Hinted limit count hints p h
-  Asked (Masking q a b c h) = (q ≡ p) × (a ≡ j) × (type2 p ≡ Mask) × (h ≤ limit) × (j ≤ b) × (b ≤ n) × Fixed count hints mask c h (b - j)
-  Asked (Calling w k) = (k ≡ j) × (type2 p ≡ Call w) × (0 < count)
+  Asked (Push k o) = ⊥
+  Asked (Plain k h q) = (q ≡ p) × (k ≡ j) × Hinted limit count hints p h
+  Asked (Masking a b c h q) = (q ≡ p) × (a ≡ j) × (type2 p ≡ Mask) × (h ≤ limit) × (j ≤ b) × (b ≤ n) × Fixed count hints mask c h (b - j)
+  Asked (Calling k w) = (k ≡ j) × (type2 p ≡ Call w) × (0 < count)
   Asked Returning = type2 p ≡ Return
   Asked (Finish q) = (q ≡ p) × (type2 p ≡ End) × (count < 4)
   Asked Out = ⊥
@@ -89,10 +89,10 @@ module _ (cs : List ℕ) (i budget operands limit tokens count hints mask : ℕ)
         → step rules lists levels at budget (drop i cs) t ≡ refuse k t
 
   abbrev pub Looked : Request → Type 0
-  Looked (Push o j) = Begun cs i j tokens budget × (cut (drop i cs) ≡ token (number o) (drop j cs)) × (count < operands)
-  Looked (Plain p j h) = AtOperator cs i j tokens budget p × Hinted limit count hints p h
-  Looked (Masking p a b c h) = AtOperator cs i a tokens budget p × (type2 p ≡ Mask) × (h ≤ limit) × (a ≤ b) × (b ≤ length cs) × Fixed count hints mask c h (b - a)
-  Looked (Calling w j) = (p : Operator) × AtOperator cs i j tokens budget p × (type2 p ≡ Call w) × (0 < count)
+  Looked (Push j o) = Begun cs i j tokens budget × (cut (drop i cs) ≡ token (number o) (drop j cs)) × (count < operands)
+  Looked (Plain j h p) = AtOperator cs i j tokens budget p × Hinted limit count hints p h
+  Looked (Masking a b c h p) = AtOperator cs i a tokens budget p × (type2 p ≡ Mask) × (h ≤ limit) × (a ≤ b) × (b ≤ length cs) × Fixed count hints mask c h (b - a)
+  Looked (Calling j w) = (p : Operator) × AtOperator cs i j tokens budget p × (type2 p ≡ Call w) × (0 < count)
   Looked Returning = (p : Operator) × (j : ℕ) × AtOperator cs i j tokens budget p × (type2 p ≡ Return)
   Looked (Finish p) = (j : ℕ) × AtOperator cs i j tokens budget p × (type2 p ≡ End) × (count < 4)
   Looked Out = length cs ≤ i

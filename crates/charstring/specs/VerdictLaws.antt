@@ -6,7 +6,7 @@ use Prim.Native.Nat.{ℕ, _-_, _≤_, _<_, zero-le}
 use native.Mathlib.Nat.{lt-of-le-of-lt}
 use native.Mathlib.Omega.{arith}
 use lib.Dec.{leb, lit≤}
-use lib.ListN.{length, drop}
+use lib.ListN.{length, take, drop}
 use borrow.Author.Tests.{le-leb, lt-leb}
 use Rattle.number.specs.Answer.{Answer, accepted, refused}
 use Rattle.index.specs.Index.{extent}
@@ -22,7 +22,7 @@ use Rattle.reading.specs.declared.Profile.{Profile}
 use Rattle.reading.specs.declared.Profile.the-variants.{Plain, Strict}
 use Rattle.reading.specs.declared.Refusal.{Refusal}
 use Rattle.charstring.specs.Words.{stackOf}
-use Rattle.charstring.specs.WordsLaws.{written-none, written-whole}
+use Rattle.charstring.specs.WordsLaws.{Written, written-none, written-whole, written-take, written-less}
 use Rattle.charstring.specs.Run.{Ruled, tailOf, Repr, howOf, Done, Sound, Setting, RunsTo}
 use Rattle.charstring.specs.Verdicts.{flat-of, stopped-by, verdictOf, measureOf, Holds, filled}
 use Rattle.charstring.specs.declared.charstring.Limits.{Limits}
@@ -178,6 +178,16 @@ module _ (out : List ℕ) (x : Run) where
         let a : verdict (length out) x ≡ accepted (record { size = n; tokens = t }) = i .answers (length out) ∙ rw (le-leb (length (flatOf x)) (length out) (let s = i .size in omega arith), ← i .size, ← i .count) in
         ap (told (accepted (record { size = n; tokens = t }))) q
         ∙ sym (ap (λ (y : Answer Flattening). told y (placed (flatOf x) out y)) a)
+
+    -- the flat string was held, and is copied
+    pub by-held : n ≤ length out → (limit : ℕ) (m : List ℕ) → Written limit m (flatOf x) → n ≤ limit → n ≤ length m → (l : List ℕ) → l ≡ take n m ++ drop n out
+        → Answers (accepted (record { size = n; tokens = t })) l
+    unfolding filled
+    by-held h limit m w k r l q =
+        let size = is .size in
+        by-flat h l
+        (q ∙ ap (λ (f : List ℕ). f ++ drop n out) (written-take n m (flatOf x) (written-less limit n m (flatOf x) k w) (sym size) r)
+        ∙ ap (λ (j : ℕ). flatOf x ++ drop j out) size)
 
     pub held : (room : ℕ) → n ≤ room → Holds n room x
     held room h = record { accepted-run = is .ends; size = is .size; fits = h }

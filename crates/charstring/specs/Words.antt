@@ -1,9 +1,10 @@
 -- What the code holds, in the reading's words.
+use mathlib.Core.Path.{_≡_}
 use mathlib.Core.Bool.{Bool, cond}
 use mathlib.Core.List.{List, [], _∷_}
 use Prim.Native.Nat.{ℕ, zero, suc, _+_, _-_, _%_, _^_, _≤_, _<_}
 use lib.Dec.{leb, ltb, eqb}
-use lib.ListN.{getD, set, drop}
+use lib.ListN.{length, getD, set, drop}
 use Rattle.number.specs.Answer.{Answer, accepted, refused}
 use Rattle.number.specs.Signed.{signed}
 use Rattle.number.specs.Call.{callee}
@@ -19,14 +20,14 @@ use Rattle.charstring.specs.declared.subroutines.Target.the-variants.{En
 -- ---- a token that was cut
 
 abbrev pub cutOf : List ℕ → Token → Cut
-cutOf cs (Number o next) = token (number o) (drop next cs)
-cutOf cs (Operator p next) = token (operator p) (drop next cs)
+cutOf cs (Number next o) = token (number o) (drop next cs)
+cutOf cs (Operator next p) = token (operator p) (drop next cs)
 cutOf cs Lacking = lacking
 
 -- it ends after it starts, and within the string
 abbrev pub Ahead : ℕ → ℕ → Token → Type 0
-Ahead i n (Number o next) = (i < next) × (next ≤ n)
-Ahead i n (Operator p next) = (i < next) × (next ≤ n)
+Ahead i n (Number next o) = (i < next) × (next ≤ n)
+Ahead i n (Operator next p) = (i < next) × (next ≤ n)
 Ahead i n Lacking = Unit {0}
 
 -- ---- operands as words
@@ -73,3 +74,10 @@ targetOf (No k) = refused (numberOf k) []
 abbrev pub Inside : ℕ → Target → Type 0
 Inside n (Enter from to) = (from ≤ to) × (to ≤ n)
 Inside n (No k) = Unit {0}
+
+-- the operand o stands at i, and ends at j
+pub record StandsAt (cs : List ℕ) (i j : ℕ) (o : Operand) : Type 0 where
+  pub bytes : (k : ℕ) → getD cs k 0 < 256
+  pub ahead : i < j
+  pub inside : j ≤ length cs
+  pub cut-is : cut (drop i cs) ≡ token (number o) (drop j cs)

@@ -202,6 +202,23 @@ module _ (n : ℕ) (l f : List ℕ) (w : Written n l f) (e : length f ≡ n) whe
       ∙ ap (λ (m : ℕ). take m (f ++ drop n l)) (sym e)
       ∙ take-append-seam f (drop n l)
 
+-- ---- a whole string is stored at the start
+
+pub written-less : (limit n : ℕ) (l f : List ℕ) → n ≤ limit → Written limit l f → Written n l f
+unfolding Written
+written-less limit n l f h w k q j = w k (omega arith) j
+
+puts-whole : (n : ℕ) (f l : List ℕ) → length f ≡ n → n ≤ length l → puts n 0 f l ≡ f ++ drop n l
+puts-whole n f l e h =
+    written-whole n (puts n 0 f l) f (puts-written n 0 f l [] h refl (written-none n l)) e l
+    (let q : length (puts n 0 f l) ≡ length l = puts-length n 0 f l in omega arith) (puts-beyond n 0 f l) (puts-length n 0 f l)
+
+-- the first n bytes of another list
+pub puts-first : (n : ℕ) (m l : List ℕ) → n ≤ length m → n ≤ length l → puts n 0 (take (n - 0) (drop 0 m)) l ≡ take n m ++ drop n l
+puts-first n m l h k =
+    let z : n - 0 ≡ n = omega arith in
+    ap (λ (j : ℕ). puts n 0 (take j m) l) z ∙ puts-whole n (take n m) l (length-take-le n m h) k
+
 -- ---- the stack
 
 pub stack-length : (l : List ℕ) (n : ℕ) → length (stackOf l n) ≡ n

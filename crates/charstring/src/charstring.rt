@@ -3,8 +3,8 @@ use crate::argstack::pack;
 use crate::argstack::unpack;
 use crate::look::Request;
 use crate::look::look;
-use crate::store::put_mask;
-use crate::store::put_operand;
+use crate::store::put_bytes;
+use crate::store::put_number;
 use crate::store::put_operator;
 use crate::store::size_of;
 use crate::subroutines::Target;
@@ -85,15 +85,15 @@ pub(crate) fn run<'a>(
             mask,
         );
         match looked {
-            Request::Push(o, next) => {
-                end = put_operand(out, by.stored, end, o);
+            Request::Push(next, o) => {
+                end = put_number(out, by.stored, end, cs, i, next, o);
                 stack[count] = pack(o);
                 count += 1;
                 tail += 1;
                 tokens += 1;
                 i = next;
             }
-            Request::Plain(p, next, h) => {
+            Request::Plain(next, h, p) => {
                 end = put_operator(out, by.stored, end, p);
                 count = 0;
                 tail = 0;
@@ -101,9 +101,9 @@ pub(crate) fn run<'a>(
                 tokens += 1;
                 i = next;
             }
-            Request::Mask(p, from, to, c, h) => {
+            Request::Mask(from, to, c, h, p) => {
                 let behind = put_operator(out, by.stored, end, p);
-                end = put_mask(out, by.stored, behind, &cs[from..to]);
+                end = put_bytes(out, by.stored, behind, &cs[from..to]);
                 count = c;
                 tail = 0;
                 hints = h;
@@ -111,7 +111,7 @@ pub(crate) fn run<'a>(
                 tokens += 1;
                 i = to;
             }
-            Request::Call(which, next) => {
+            Request::Call(next, which) => {
                 let o = unpack(stack[count - 1]);
                 let list = choose(which, globals, locals);
                 let target = aim(list, choose_count(which, by), o, by.exact, levels, tail);

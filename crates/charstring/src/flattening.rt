@@ -3,6 +3,7 @@ use crate::charstring::Ending;
 use crate::charstring::Limits;
 use crate::charstring::State;
 use crate::charstring::run;
+use crate::store::put_bytes;
 use index::Formed;
 use index::IndexRead;
 use index::read_index;
@@ -12,12 +13,14 @@ use reading::Profile;
 use reading::Refusal;
 ghost use mathlib.Core.Path.{_≡_};
 ghost use Prim.Native.Nat.{_-_, _≤_, _<_};
-ghost use lib.ListN.{length};
+ghost use mathlib.Core.List.{_++_};
+ghost use lib.ListN.{length, take, drop};
 ghost use Rattle.index.specs.Index.{extent};
 ghost use Rattle.reading.specs.Rules.{rulesOf};
 ghost use Rattle.reading.specs.Lists.{countIn, listsOf};
 ghost use Rattle.reading.specs.Reading.{stopped, tokensBy, reading};
-ghost use Rattle.reading.specs.Answers.{numberOf, flattened, outcome, flattening};
+ghost use Rattle.reading.specs.Answers.{numberOf, flatOf, flattened, outcome, flattening};
+ghost use Rattle.charstring.specs.WordsLaws.{Written};
 ghost use Rattle.charstring.specs.Verdicts.{measured, measureOf, Holds, filled};
 
 // A charstring's verdict, whatever the room.
@@ -61,13 +64,18 @@ pub fn write<'a>(
 ) -> Flattened
     ensures { λ r. ⌜ record { answer = flattened r; left = now (out .exit) } ≡ outcome (now (out .entry)) (reading (rulesOf profile) (listsOf 2 (now (globals .entry)) (now (locals .entry))) budget (now (cs .entry))) ⌝ }
 {
-    match measure(cs, globals, locals, profile, budget) {
+    let mut held = [0u8; 2048];
+    match draft(cs, globals, locals, profile, budget, &mut held) {
         Measured::Stopped(k, tokens) => Flattened::Refused(k, tokens),
         Measured::Flat(n, tokens) => {
             if out.len() < n {
                 return Flattened::Short(n, tokens);
             }
-            fill(cs, globals, locals, profile, budget, n, out);
+            if n <= 2048 {
+                keep(out, n, &held);
+            } else {
+                fill(cs, globals, locals, profile, budget, n, out);
+            }
             Flattened::Accepted(n, tokens)
         }
     }
@@ -83,9 +91,24 @@ pub fn measure<'a>(
 ) -> Measured
     ensures { λ r. ⌜ measured r ≡ measureOf (reading (rulesOf profile) (listsOf 2 (now (globals .entry)) (now (locals .entry))) budget (now (cs .entry))) ⌝ }
 {
-    let by = limits_of(profile, budget, globals, locals, 0);
+    let mut held = [0u8; 1];
+    draft(cs, globals, locals, profile, budget, &mut held)
+}
+
+// The verdict on a charstring, and of its flat string as many bytes as held has room for.
+fn draft<'a>(
+    cs: &'a [u8],
+    globals: &'a [u8],
+    locals: &'a [u8],
+    profile: Profile,
+    budget: u32,
+    held: &mut [u8],
+) -> Measured
+    ensures { λ r. ⌜ measured r ≡ measureOf (reading (rulesOf profile) (listsOf 2 (now (globals .entry)) (now (locals .entry))) budget (now (cs .entry))) ⌝ }
+    ensures { λ r. ⌜ Written (length (now (held .entry))) (now (held .exit)) (flatOf (reading (rulesOf profile) (listsOf 2 (now (globals .entry)) (now (locals .entry))) budget (now (cs .entry)))) ⌝ }
+{
+    let by = limits_of(profile, budget, globals, locals, held.len());
     let mut stack = [0u64; 48];
-    let mut none = [0u8; 1];
     let r = run(
         cs,
         globals,
@@ -93,7 +116,7 @@ pub fn measure<'a>(
         by,
         begun(),
         &mut stack,
-        &mut none,
+        held,
         levels_of(profile),
     );
     let how = r.how;
@@ -103,6 +126,14 @@ pub fn measure<'a>(
         Ending::Ended => Measured::Flat(st.length, st.tokens),
         Ending::Refused(k) => Measured::Stopped(k, counted(k, st.tokens)),
     }
+}
+
+// Stores the first n bytes of held.
+fn keep(out: &mut [u8], n: usize, held: &[u8])
+    requires { ⌜ (n ≤ length (now out)) × (n ≤ length (now held)) ⌝ }
+    ensures { λ _. ⌜ now (out .exit) ≡ take n (now (held .entry)) ++ drop n (now (out .entry)) ⌝ }
+{
+    put_bytes(out, n, 0, &held[0..n]);
 }
 
 // The second run, which stores the n bytes of a flat string that was measured.

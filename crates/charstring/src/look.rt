@@ -16,13 +16,13 @@ ghost use Rattle.charstring.specs.Run.{Asked, Looked};
 
 pub(crate) enum Request {
     // An operand, and where the next token starts.
-    Push(Operand, usize),
+    Push(usize, Operand),
     // An operator that clears the stack, where the next token starts, and the hints then.
-    Plain(Operator, usize, usize),
+    Plain(usize, usize, Operator),
     // A mask operator, where its bytes start and end, and the operands and the hints then.
-    Mask(Operator, usize, usize, usize, usize),
+    Mask(usize, usize, usize, usize, Operator),
     // A call, and where the next token starts.
-    Call(Which, usize),
+    Call(usize, Which),
     Return,
     End(Operator),
     // There are no more bytes.
@@ -52,13 +52,13 @@ pub(crate) fn look(
     }
     match token_at(cs, i) {
         Token::Lacking => Request::Bad(Refusal::BytesLacking),
-        Token::Number(o, next) => {
+        Token::Number(next, o) => {
             if operands <= count {
                 return Request::Bad(Refusal::TooManyOperands);
             }
-            Request::Push(o, next)
+            Request::Push(next, o)
         }
-        Token::Operator(p, next) => ask(cs.len(), next, p, limit, count, hints, mask),
+        Token::Operator(next, p) => ask(cs.len(), next, p, limit, count, hints, mask),
     }
 }
 
@@ -77,13 +77,13 @@ fn ask(
 {
     match kind_of(p) {
         Kind::Stem => ask_stem(n, next, p, limit, count, hints, mask),
-        Kind::Clear => Request::Plain(p, next, hints),
+        Kind::Clear => Request::Plain(next, hints, p),
         Kind::Mask => ask_mask(n, next, p, limit, count, hints, mask),
         Kind::Call(which) => {
             if count == 0 {
                 return Request::Bad(Refusal::NoIndex);
             }
-            Request::Call(which, next)
+            Request::Call(next, which)
         }
         Kind::Return => Request::Return,
         Kind::End => {
@@ -114,7 +114,7 @@ fn ask_stem(
     if limit < h {
         return Request::Bad(Refusal::TooManyHints);
     }
-    Request::Plain(p, next, h)
+    Request::Plain(next, h, p)
 }
 
 // A mask's hints and bytes. Once its length is fixed, the operands stay.
@@ -138,7 +138,7 @@ fn ask_mask(
         if n - next < mask {
             return Request::Bad(Refusal::BytesLacking);
         }
-        return Request::Mask(p, next, next + mask, count, hints);
+        return Request::Mask(next, next + mask, count, hints, p);
     }
     let h = hints + count / 2;
     if limit < h {
@@ -148,5 +148,5 @@ fn ask_mask(
     if n - next < m {
         return Request::Bad(Refusal::BytesLacking);
     }
-    Request::Mask(p, next, next + m, 0, h)
+    Request::Mask(next, next + m, 0, h, p)
 }

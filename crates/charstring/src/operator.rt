@@ -14,59 +14,24 @@ pub(crate) fn kind_of(p: Operator) -> Kind
     plain_kind(p.byte)
 }
 
-// What each byte below 32 is: 1 a stem, 2 clears the stack, 3 takes a mask, 4 and 5 call, 6 returns,
-// 7 ends, and 0 is no operator.
-const KINDS: [u8; 32] = [
-    0,
-    1,
-    0,
-    1,
-    2,
-    2,
-    2,
-    2,
-    2,
-    0,
-    4,
-    6,
-    0,
-    0,
-    7,
-    0,
-    0,
-    0,
-    1,
-    3,
-    3,
-    2,
-    2,
-    1,
-    2,
-    2,
-    2,
-    2,
-    0,
-    5,
-    2,
-    2,
-];
-
 // An operator of one byte.
 fn plain_kind(b: u8) -> Kind
     ensures { λ r. ⌜ r ≡ plainKind b ⌝ }
 {
-    if 31 < b {
-        return Kind::Unknown;
-    }
-    let k = KINDS[b as usize];
-    match k {
+    match b {
         1 => Kind::Stem,
-        2 => Kind::Clear,
-        3 => Kind::Mask,
-        4 => Kind::Call(Which::Local),
-        5 => Kind::Call(Which::Global),
-        6 => Kind::Return,
-        7 => Kind::End,
+        3 => Kind::Stem,
+        4..=8 => Kind::Clear,
+        10 => Kind::Call(Which::Local),
+        11 => Kind::Return,
+        14 => Kind::End,
+        18 => Kind::Stem,
+        19..=20 => Kind::Mask,
+        21..=22 => Kind::Clear,
+        23 => Kind::Stem,
+        24..=27 => Kind::Clear,
+        29 => Kind::Call(Which::Global),
+        30..=31 => Kind::Clear,
         _ => Kind::Unknown,
     }
 }

@@ -10,11 +10,37 @@ ghost use lib.ListN.{length};
 ghost use Rattle.number.specs.Number.{charstringRows};
 ghost use Rattle.number.specs.Written.{spelling};
 ghost use Rattle.reading.specs.Flat.{operatorBytes};
-ghost use Rattle.charstring.specs.Words.{puts};
+ghost use Rattle.charstring.specs.Words.{puts, StandsAt};
 ghost use Rattle.charstring.specs.Short.{integerBytes, wideBytes, fixedBytes};
 
+// Stores the operand o, which stands at i in cs and ends at `next`, in its shortest form from `at` on; where it ends.
+// One byte and two are the shortest form already.
+pub(crate) fn put_number(
+    out: &mut [u8],
+    limit: usize,
+    at: usize,
+    cs: &[u8],
+    i: usize,
+    next: usize,
+    o: Operand,
+) -> usize
+    requires { ⌜ (limit ≤ length (now out)) × (at < 2 ^ 60) ⌝ }
+    requires { ⌜ StandsAt (now cs) i next o ⌝ }
+    ensures { λ r. ⌜ r ≡ at + length (spelling charstringRows o) ⌝ }
+    ensures { λ r. ⌜ now (out .exit) ≡ puts limit at (spelling charstringRows o) (now (out .entry)) ⌝ }
+{
+    let width = next - i;
+    if width == 1 {
+        return put_byte(out, limit, at, cs[i]);
+    }
+    if width == 2 {
+        return put_two(out, limit, at, cs[i], cs[i + 1]);
+    }
+    put_operand(out, limit, at, o)
+}
+
 // Stores o in its shortest form from `at` on; where it ends.
-pub(crate) fn put_operand(out: &mut [u8], limit: usize, at: usize, o: Operand) -> usize
+fn put_operand(out: &mut [u8], limit: usize, at: usize, o: Operand) -> usize
     requires { ⌜ (limit ≤ length (now out)) × (at < 2 ^ 60) ⌝ }
     ensures { λ r. ⌜ r ≡ at + length (spelling charstringRows o) ⌝ }
     ensures { λ r. ⌜ now (out .exit) ≡ puts limit at (spelling charstringRows o) (now (out .entry)) ⌝ }
@@ -65,9 +91,9 @@ pub(crate) fn put_operator(out: &mut [u8], limit: usize, at: usize, p: Operator)
     put_byte(out, limit, at, b)
 }
 
-// Stores the bytes m of a mask. What lies past the limit is clipped before the loop, so that a mask
-// that is not stored costs a constant.
-pub(crate) fn put_mask(out: &mut [u8], limit: usize, at: usize, m: &[u8]) -> usize
+// Stores the bytes m. What lies past the limit is clipped before the loop, so that a mask that is not
+// stored costs a constant.
+pub(crate) fn put_bytes(out: &mut [u8], limit: usize, at: usize, m: &[u8]) -> usize
     requires { ⌜ (limit ≤ length (now out)) × (at < 2 ^ 60) ⌝ }
     ensures { λ r. ⌜ r ≡ at + length (now (m .entry)) ⌝ }
     ensures { λ r. ⌜ now (out .exit) ≡ puts limit at (now (m .entry)) (now (out .entry)) ⌝ }

@@ -11,9 +11,9 @@ ghost use Rattle.charstring.specs.Words.{cutOf, Ahead};
 
 pub(crate) enum Token {
     // An operand, and where the next token starts.
-    Number(Operand, usize),
+    Number(usize, Operand),
     // An operator, and where what stands behind it starts.
-    Operator(Operator, usize),
+    Operator(usize, Operator),
     // Bytes are lacking.
     Lacking,
 }
@@ -25,7 +25,7 @@ pub(crate) fn token_at(cs: &[u8], i: usize) -> Token
     ensures { λ r. ⌜ Ahead i (length (now (cs .entry))) r ⌝ }
 {
     match read_charstring_number(&cs[i..]) {
-        NumberRead::Read(o, width) => Token::Number(o, i + width),
+        NumberRead::Read(o, width) => Token::Number(i + width, o),
         NumberRead::Missing => Token::Lacking,
         NumberRead::NoNumber => operator_at(cs, i),
     }
@@ -40,21 +40,21 @@ fn operator_at(cs: &[u8], i: usize) -> Token
     let b = cs[i];
     if b != 12 {
         return Token::Operator(
+            i + 1,
             Operator {
                 escaped: false,
                 byte: b,
             },
-            i + 1,
         );
     }
     if cs.len() <= i + 1 {
         return Token::Lacking;
     }
     Token::Operator(
+        i + 2,
         Operator {
             escaped: true,
             byte: cs[i + 1],
         },
-        i + 2,
     )
 }

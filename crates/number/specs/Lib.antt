@@ -10,3 +10,4 @@ pub mod WrittenLaws
 pub mod Call
 pub mod CallLaws
 pub mod RoundTrip
+pub mod KeptLaws

@@ -40,6 +40,10 @@ fn read_number(s: &[u8], dict: bool) -> NumberRead
         return NumberRead::Missing;
     }
     let b = s[0];
+    // most numbers are of one byte
+    if 31 < b && b < 247 {
+        return NumberRead::Read(operand_of(b, 0, dict), 1);
+    }
     let After::Bytes(k) = bytes_after(b, dict) else {
         return NumberRead::NoNumber;
     };

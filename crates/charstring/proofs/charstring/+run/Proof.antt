@@ -26,8 +26,8 @@ use Rattle.charstring.proofs.argstack.unpack.Reads as unpack-reads
 use Rattle.charstring.proofs.charstring.choose.Reads as choose-reads
 use Rattle.charstring.proofs.charstring.choose_count.Reads as choose-count-reads
 use Rattle.charstring.proofs.look.look.Reads as look-reads
-use Rattle.charstring.proofs.store.put_mask.Reads as put-mask-reads
-use Rattle.charstring.proofs.store.put_operand.Reads as put-operand-reads
+use Rattle.charstring.proofs.store.put_bytes.Reads as put-bytes-reads
+use Rattle.charstring.proofs.store.put_number.Reads as put-number-reads
 use Rattle.charstring.proofs.store.put_operator.Reads as put-operator-reads
 use Rattle.charstring.proofs.store.size_of.Reads as size-of-reads
 use Rattle.charstring.proofs.subroutines.aim.Reads as aim-reads
@@ -54,7 +54,7 @@ run-μ-loop cs globals locals by stack₀ out₀ levels count₀ tail₀ hints�
     length cs - i
 
 abbrev callees : ℕ → run-lts.Claims
-callees t = (look-reads.Asked, look-reads.Learnt, put-operand-reads.Asked, put-operand-reads.Learnt, pack-reads.Asked, pack-reads.Learnt, put-operator-reads.Asked, put-operator-reads.Learnt, put-mask-reads.Asked, put-mask-reads.Learnt, unpack-reads.Asked, unpack-reads.Learnt, choose-reads.Asked, choose-reads.Learnt, choose-count-reads.Asked, choose-count-reads.Learnt, aim-reads.Asked, aim-reads.Learnt, size-of-reads.Asked, size-of-reads.Learnt, run-below t, run.Post)
+callees t = (look-reads.Asked, look-reads.Learnt, put-number-reads.Asked, put-number-reads.Learnt, pack-reads.Asked, pack-reads.Learnt, put-operator-reads.Asked, put-operator-reads.Learnt, put-bytes-reads.Asked, put-bytes-reads.Learnt, unpack-reads.Asked, unpack-reads.Learnt, choose-reads.Asked, choose-reads.Learnt, choose-count-reads.Asked, choose-count-reads.Learnt, aim-reads.Asked, aim-reads.Learnt, size-of-reads.Asked, size-of-reads.Learnt, run-below t, run.Post)
 
 -- what a need asks, at the callees' contracts, the invariant and the measure
 abbrev Of : (run-lts.Claims → In 3 run-kinds.ps → Out 3 run-kinds.ps run-kinds.r → run-lts.InvT-loop → run-lts.MeasureT-loop → Type 0) → ℕ → Type 0
@@ -86,10 +86,10 @@ head t c =
 -- where a call's entry is bound: what the token asked for, what was aimed at, and that it is there
 called : (t : ℕ) (c : run-lts.After-target (callees t) (run-at t) run.Post run-Inv-loop run-μ-loop)
     → Looked (c .before .before .before .before .before .before .before .before .before .before .before .before .before .before .before .before .before .args .cs .now) (c .before .before .before .before .before .before .before .before .before .before .before .loop .i) (c .before .before .before .before .before .before .before .before .before .before .before .before .before .before .before .before .before .args .by .budget) (length (c .before .before .before .before .before .before .before .before .before .before .before .loop .stack)) (c .before .before .before .before .before .before .before .before .before .before .before .before .before .before .before .before .before .args .by .hints) (c .before .before .before .before .before .before .before .before .before .before .before .loop .tokens) (c .before .before .before .before .before .before .before .before .before .before .before .loop .count) (c .before .before .before .before .before .before .before .before .before .before .before .loop .hints) (c .before .before .before .before .before .before .before .before .before .before .before .loop .mask) (Call (c .before .before .before .before .before .before .before .before .looked4 .given .0 .0) (c .before .before .before .before .before .before .before .before .looked4 .given .0 .1 .0))
-called t c = asks (c .before .before .before .before .before .before .before .before .before .before .before .before .before .before .before .before .before .args .cs .now) (c .before .before .before .before .before .before .before .before .before .before .before .before .before .before .before .before .before .args .globals .now) (c .before .before .before .before .before .before .before .before .before .before .before .before .before .before .before .before .before .args .locals .now) (c .before .before .before .before .before .before .before .before .before .before .before .before .before .before .before .before .before .args .by) (c .before .before .before .before .before .before .before .before .before .before .before .before .before .before .before .before .before .args .levels) (c .before .before .before .before .before .before .before .before .before .before .before .before .before .before .before .before .before .args .s) (c .before .before .before .before .before .before .before .before .before .before .before .before .before .before .before .before .before .args .stack .now) (c .before .before .before .before .before .before .before .before .before .before .before .before .before .before .before .before .before .args .out .now) (c .before .before .before .before .before .before .before .before .before .before .before .loop .stack) (c .before .before .before .before .before .before .before .before .before .before .before .loop .out) (record { count = c .before .before .before .before .before .before .before .before .before .before .before .loop .count; tail = c .before .before .before .before .before .before .before .before .before .before .before .loop .tail; hints = c .before .before .before .before .before .before .before .before .before .before .before .loop .hints; mask = c .before .before .before .before .before .before .before .before .before .before .before .loop .mask; tokens = c .before .before .before .before .before .before .before .before .before .before .before .loop .tokens; length = c .before .before .before .before .before .before .before .before .before .before .before .loop .end }) (c .before .before .before .before .before .before .before .before .before .before .before .loop .i) (c .before .before .before .before .before .before .before .before .before .before .look .result) (head t (c .before .before .before .before .before .before .before .before .before .before)) (Call (c .before .before .before .before .before .before .before .before .looked4 .given .0 .0) (c .before .before .before .before .before .before .before .before .looked4 .given .0 .1 .0)) (c .before .before .before .before .before .before .before .before .looked4 .given .1)
+called t c = asks _ _ _ _ _ _ _ _ _ _ _ _ _ (head t (c .before .before .before .before .before .before .before .before .before .before)) (Call (c .before .before .before .before .before .before .before .before .looked4 .given .0 .0) (c .before .before .before .before .before .before .before .before .looked4 .given .0 .1 .0)) (c .before .before .before .before .before .before .before .before .looked4 .given .1)
 
 aims : (t : ℕ) (c : run-lts.After-target (callees t) (run-at t) run.Post run-Inv-loop run-μ-loop)
-    → targetOf (Enter (c .target .given .0 .0) (c .target .given .0 .1 .0)) ≡ aimed (chosen (c .before .before .before .before .before .before .before .before .looked4 .given .0 .0) (c .before .before .before .before .before .before .before .before .before .before .before .before .before .before .before .before .before .args .globals .now) (c .before .before .before .before .before .before .before .before .before .before .before .before .before .before .before .before .before .args .locals .now)) (chosenCount (c .before .before .before .before .before .before .before .before .looked4 .given .0 .0) (c .before .before .before .before .before .before .before .before .before .before .before .before .before .before .before .before .before .args .by)) (unpackOf (getD (c .before .before .before .before .before .before .before .before .before .before .before .loop .stack) (c .before .before .before .before .before .before .before .before .before .before .before .loop .count - 1) 0)) (c .before .before .before .before .before .before .before .before .before .before .before .before .before .before .before .before .before .args .by .exact) (c .before .before .before .before .before .before .before .before .before .before .before .before .before .before .before .before .before .args .levels) (c .before .before .before .before .before .before .before .before .before .before .before .loop .tail)
+    → targetOf (Enter (c .target .given .0 .0) (c .target .given .0 .1 .0)) ≡ aimed (chosen (c .before .before .before .before .before .before .before .before .looked4 .given .0 .1 .0) (c .before .before .before .before .before .before .before .before .before .before .before .before .before .before .before .before .before .args .globals .now) (c .before .before .before .before .before .before .before .before .before .before .before .before .before .before .before .before .before .args .locals .now)) (chosenCount (c .before .before .before .before .before .before .before .before .looked4 .given .0 .1 .0) (c .before .before .before .before .before .before .before .before .before .before .before .before .before .before .before .before .before .args .by)) (unpackOf (getD (c .before .before .before .before .before .before .before .before .before .before .before .loop .stack) (c .before .before .before .before .before .before .before .before .before .before .before .loop .count - 1) 0)) (c .before .before .before .before .before .before .before .before .before .before .before .before .before .before .before .before .before .args .by .exact) (c .before .before .before .before .before .before .before .before .before .before .before .before .before .before .before .before .before .args .levels) (c .before .before .before .before .before .before .before .before .before .before .before .loop .tail)
 aims t c = aims-at _ _ _ _ _ _ _ _ _ _ _ (c .before .before .before .before .choose .ensures) (c .before .before .before .choose-count .ensures) (c .before .before .before .before .before .unpack .ensures) (c .target .given .1) (c .before .before .aim .ensures .0)
 
 within : (t : ℕ) (c : run-lts.After-target (callees t) (run-at t) run.Post run-Inv-loop run-μ-loop)
@@ -98,7 +98,7 @@ within t c = inside-at _ _ _ _ refl (c .target .given .1) (c .before .before .ai
 
 there : (t : ℕ) (c : run-lts.After-target (callees t) (run-at t) run.Post run-Inv-loop run-μ-loop)
     → (length (spelling charstringRows (unpackOf (getD (c .before .before .before .before .before .before .before .before .before .before .before .loop .stack) (c .before .before .before .before .before .before .before .before .before .before .before .loop .count - 1) 0))) ≤ c .before .before .before .before .before .before .before .before .before .before .before .loop .end) × ((0 < c .before .before .before .before .before .before .before .before .before .before .before .loop .tail) × (c .before .before .before .before .before .before .before .before .before .before .before .before .before .before .before .before .before .args .levels ≡ 0 → ⊥))
-there t c = index-there (c .before .before .before .before .before .before .before .before .before .before .before .before .before .before .before .before .before .args .cs .now) (c .before .before .before .before .before .before .before .before .before .before .before .before .before .before .before .before .before .args .globals .now) (c .before .before .before .before .before .before .before .before .before .before .before .before .before .before .before .before .before .args .locals .now) (c .before .before .before .before .before .before .before .before .before .before .before .before .before .before .before .before .before .args .by) (c .before .before .before .before .before .before .before .before .before .before .before .before .before .before .before .before .before .args .levels) (c .before .before .before .before .before .before .before .before .before .before .before .before .before .before .before .before .before .args .s) (c .before .before .before .before .before .before .before .before .before .before .before .before .before .before .before .before .before .args .stack .now) (c .before .before .before .before .before .before .before .before .before .before .before .before .before .before .before .before .before .args .out .now) (c .before .before .before .before .before .before .before .before .before .before .before .loop .stack) (c .before .before .before .before .before .before .before .before .before .before .before .loop .out) (record { count = c .before .before .before .before .before .before .before .before .before .before .before .loop .count; tail = c .before .before .before .before .before .before .before .before .before .before .before .loop .tail; hints = c .before .before .before .before .before .before .before .before .before .before .before .loop .hints; mask = c .before .before .before .before .before .before .before .before .before .before .before .loop .mask; tokens = c .before .before .before .before .before .before .before .before .before .before .before .loop .tokens; length = c .before .before .before .before .before .before .before .before .before .before .before .loop .end }) (c .before .before .before .before .before .before .before .before .before .before .before .loop .i) (head t (c .before .before .before .before .before .before .before .before .before .before) .turn) (c .before .before .before .before .before .before .before .before .looked4 .given .0 .0) (c .before .before .before .before .before .before .before .before .looked4 .given .0 .1 .0) (called t c) (c .target .given .0 .0) (c .target .given .0 .1 .0) (aims t c) _ refl (head t (c .before .before .before .before .before .before .before .before .before .before) .sound)
+there t c = index-there _ _ _ _ _ _ _ _ _ _ _ _ (head t (c .before .before .before .before .before .before .before .before .before .before) .turn) (c .before .before .before .before .before .before .before .before .looked4 .given .0 .1 .0) (c .before .before .before .before .before .before .before .before .looked4 .given .0 .0) (called t c) (c .target .given .0 .0) (c .target .given .0 .1 .0) (aims t c) _ refl (head t (c .before .before .before .before .before .before .before .before .before .before) .sound)
 
 sized : (t : ℕ) (c : run-lts.After-size-of (callees t) (run-at t) run.Post run-Inv-loop run-μ-loop) → c .size-of .result ≡ length (spelling charstringRows (unpackOf (getD (c .before .before .before .before .before .before .before .before .before .before .before .before .before .loop .stack) (c .before .before .before .before .before .before .before .before .before .before .before .before .before .loop .count - 1) 0)))
 sized t c = c .size-of .ensures ∙ ap (λ (o : Operand). length (spelling charstringRows o)) (c .before .before .before .before .before .before .before .unpack .ensures)
@@ -107,94 +107,94 @@ run-loop-holds : (t : ℕ) → Of run-lts.Need-loop-holds t
 run-loop-holds t c = (refl, refl, λ rules r t₀ p. begin rules (listsOf 2 (c .before .before .before .before .before .args .globals .now) (c .before .before .before .before .before .args .locals .now)) (c .before .before .before .before .before .args .cs .now) (c .before .before .before .before .before .args .by .budget) (c .before .before .before .before .before .args .levels) (c .before .before .before .before .before .args .by .stored) t₀ (c .before .before .before .before .before .args .out .now) (c .before .before .before .before .before .args .stack .now) (c .before .before .before .before .before .args .out .now) (c .before .before .before .before .before .args .s) 0 (c .before .before .before .before .before .pre .1 .0 .stored) t₀ p)
 
 run-look-requires : (t : ℕ) → Of run-lts.Need-look-requires t
-run-look-requires t c κs = let f = safe (c .before .before .before .before .before .before .args .cs .now) (c .before .before .before .before .before .before .args .globals .now) (c .before .before .before .before .before .before .args .locals .now) (c .before .before .before .before .before .before .args .by) (c .before .before .before .before .before .before .args .levels) (c .before .before .before .before .before .before .args .s) (c .before .before .before .before .before .before .args .stack .now) (c .before .before .before .before .before .before .args .out .now) (c .loop .stack) (c .loop .out) (record { count = c .loop .count; tail = c .loop .tail; hints = c .loop .hints; mask = c .loop .mask; tokens = c .loop .tokens; length = c .loop .end }) (c .loop .i) (turn-at t c) (c .before .before .before .before .before .before .pre .1 .1) in (f .hinted, omega arith)
+run-look-requires t c κs = let f = safe _ _ _ _ _ _ _ _ _ _ _ _ (turn-at t c) (c .before .before .before .before .before .before .pre .1 .1) in (f .hinted, omega arith)
 
 run-enum-known-looked : (t : ℕ) → Of run-lts.Need-enum-known-looked t
 run-enum-known-looked t c = search needs
 
-run-put-operand-requires : (t : ℕ) → Of run-lts.Need-put-operand-requires t
-run-put-operand-requires t c κs = let d = head t (c .before .before .before .before) in let f = asks (c .before .before .before .before .before .before .before .before .before .before .before .args .cs .now) (c .before .before .before .before .before .before .before .before .before .before .before .args .globals .now) (c .before .before .before .before .before .before .before .before .before .before .before .args .locals .now) (c .before .before .before .before .before .before .before .before .before .before .before .args .by) (c .before .before .before .before .before .before .before .before .before .before .before .args .levels) (c .before .before .before .before .before .before .before .before .before .before .before .args .s) (c .before .before .before .before .before .before .before .before .before .before .before .args .stack .now) (c .before .before .before .before .before .before .before .before .before .before .before .args .out .now) (c .before .before .before .before .before .loop .stack) (c .before .before .before .before .before .loop .out) (record { count = c .before .before .before .before .before .loop .count; tail = c .before .before .before .before .before .loop .tail; hints = c .before .before .before .before .before .loop .hints; mask = c .before .before .before .before .before .loop .mask; tokens = c .before .before .before .before .before .loop .tokens; length = c .before .before .before .before .before .loop .end }) (c .before .before .before .before .before .loop .i) (c .before .before .before .before .look .result) d (Push _ _) (c .before .before .looked .given .1) in omega (arith, d .safe-now, f .0)
+run-put-number-requires : (t : ℕ) → Of run-lts.Need-put-number-requires t
+run-put-number-requires t c κs = let d = head t (c .before .before .before .before) in let f = asks _ _ _ _ _ _ _ _ _ _ _ _ _ d (Push _ _) (c .before .before .looked .given .1) in (omega (arith, d .safe-now, f .0), record { bytes = d .turn .bytes; ahead = f .0 .ahead; inside = f .0 .inside; cut-is = f .1 })
 
 run-pack-requires : (t : ℕ) → Of run-lts.Need-pack-requires t
 run-pack-requires t c κs = tt
 
 run-mul-stack : (t : ℕ) → Of run-lts.Need-mul-stack t
-run-mul-stack t c = let d = head t (c .before .before .before .before .before .before .before .before) in let f = asks (c .before .before .before .before .before .before .before .before .before .before .before .before .before .before .before .args .cs .now) (c .before .before .before .before .before .before .before .before .before .before .before .before .before .before .before .args .globals .now) (c .before .before .before .before .before .before .before .before .before .before .before .before .before .before .before .args .locals .now) (c .before .before .before .before .before .before .before .before .before .before .before .before .before .before .before .args .by) (c .before .before .before .before .before .before .before .before .before .before .before .before .before .before .before .args .levels) (c .before .before .before .before .before .before .before .before .before .before .before .before .before .before .before .args .s) (c .before .before .before .before .before .before .before .before .before .before .before .before .before .before .before .args .stack .now) (c .before .before .before .before .before .before .before .before .before .before .before .before .before .before .before .args .out .now) (c .before .before .before .before .before .before .before .before .before .loop .stack) (c .before .before .before .before .before .before .before .before .before .loop .out) (record { count = c .before .before .before .before .before .before .before .before .before .loop .count; tail = c .before .before .before .before .before .before .before .before .before .loop .tail; hints = c .before .before .before .before .before .before .before .before .before .loop .hints; mask = c .before .before .before .before .before .before .before .before .before .loop .mask; tokens = c .before .before .before .before .before .before .before .before .before .loop .tokens; length = c .before .before .before .before .before .before .before .before .before .loop .end }) (c .before .before .before .before .before .before .before .before .before .loop .i) (c .before .before .before .before .before .before .before .before .look .result) d (Push _ _) (c .before .before .before .before .before .before .looked .given .1) in omega (arith, d .safe-now, f .2)
+run-mul-stack t c = let d = head t (c .before .before .before .before .before .before .before .before) in let f = asks _ _ _ _ _ _ _ _ _ _ _ _ _ d (Push _ _) (c .before .before .before .before .before .before .looked .given .1) in omega (arith, d .safe-now, f .2)
 
 run-slice-write-stack : (t : ℕ) → Of run-lts.Need-slice-write-stack t
-run-slice-write-stack t c = let d = head t (c .before .before .before .before .before .before .before .before) in let f = asks (c .before .before .before .before .before .before .before .before .before .before .before .before .before .before .before .args .cs .now) (c .before .before .before .before .before .before .before .before .before .before .before .before .before .before .before .args .globals .now) (c .before .before .before .before .before .before .before .before .before .before .before .before .before .before .before .args .locals .now) (c .before .before .before .before .before .before .before .before .before .before .before .before .before .before .before .args .by) (c .before .before .before .before .before .before .before .before .before .before .before .before .before .before .before .args .levels) (c .before .before .before .before .before .before .before .before .before .before .before .before .before .before .before .args .s) (c .before .before .before .before .before .before .before .before .before .before .before .before .before .before .before .args .stack .now) (c .before .before .before .before .before .before .before .before .before .before .before .before .before .before .before .args .out .now) (c .before .before .before .before .before .before .before .before .before .loop .stack) (c .before .before .before .before .before .before .before .before .before .loop .out) (record { count = c .before .before .before .before .before .before .before .before .before .loop .count; tail = c .before .before .before .before .before .before .before .before .before .loop .tail; hints = c .before .before .before .before .before .before .before .before .before .loop .hints; mask = c .before .before .before .before .before .before .before .before .before .loop .mask; tokens = c .before .before .before .before .before .before .before .before .before .loop .tokens; length = c .before .before .before .before .before .before .before .before .before .loop .end }) (c .before .before .before .before .before .before .before .before .before .loop .i) (c .before .before .before .before .before .before .before .before .look .result) d (Push _ _) (c .before .before .before .before .before .before .looked .given .1) in omega (arith, d .safe-now, f .2)
+run-slice-write-stack t c = let d = head t (c .before .before .before .before .before .before .before .before) in let f = asks _ _ _ _ _ _ _ _ _ _ _ _ _ d (Push _ _) (c .before .before .before .before .before .before .looked .given .1) in omega (arith, d .safe-now, f .2)
 
 run-add-count : (t : ℕ) → Of run-lts.Need-add-count t
-run-add-count t c = let d = head t (c .before .before .before .before .before .before .before .before) in let f = asks (c .before .before .before .before .before .before .before .before .before .before .before .before .before .before .before .args .cs .now) (c .before .before .before .before .before .before .before .before .before .before .before .before .before .before .before .args .globals .now) (c .before .before .before .before .before .before .before .before .before .before .before .before .before .before .before .args .locals .now) (c .before .before .before .before .before .before .before .before .before .before .before .before .before .before .before .args .by) (c .before .before .before .before .before .before .before .before .before .before .before .before .before .before .before .args .levels) (c .before .before .before .before .before .before .before .before .before .before .before .before .before .before .before .args .s) (c .before .before .before .before .before .before .before .before .before .before .before .before .before .before .before .args .stack .now) (c .before .before .before .before .before .before .before .before .before .before .before .before .before .before .before .args .out .now) (c .before .before .before .before .before .before .before .before .before .loop .stack) (c .before .before .before .before .before .before .before .before .before .loop .out) (record { count = c .before .before .before .before .before .before .before .before .before .loop .count; tail = c .before .before .before .before .before .before .before .before .before .loop .tail; hints = c .before .before .before .before .before .before .before .before .before .loop .hints; mask = c .before .before .before .before .before .before .before .before .before .loop .mask; tokens = c .before .before .before .before .before .before .before .before .before .loop .tokens; length = c .before .before .before .before .before .before .before .before .before .loop .end }) (c .before .before .before .before .before .before .before .before .before .loop .i) (c .before .before .before .before .before .before .before .before .look .result) d (Push _ _) (c .before .before .before .before .before .before .looked .given .1) in omega (arith, d .safe-now, f .2)
+run-add-count t c = let d = head t (c .before .before .before .before .before .before .before .before) in let f = asks _ _ _ _ _ _ _ _ _ _ _ _ _ d (Push _ _) (c .before .before .before .before .before .before .looked .given .1) in omega (arith, d .safe-now, f .2)
 
 run-add-tail : (t : ℕ) → Of run-lts.Need-add-tail t
-run-add-tail t c = let d = head t (c .before .before .before .before .before .before .before .before) in let f = asks (c .before .before .before .before .before .before .before .before .before .before .before .before .before .before .before .args .cs .now) (c .before .before .before .before .before .before .before .before .before .before .before .before .before .before .before .args .globals .now) (c .before .before .before .before .before .before .before .before .before .before .before .before .before .before .before .args .locals .now) (c .before .before .before .before .before .before .before .before .before .before .before .before .before .before .before .args .by) (c .before .before .before .before .before .before .before .before .before .before .before .before .before .before .before .args .levels) (c .before .before .before .before .before .before .before .before .before .before .before .before .before .before .before .args .s) (c .before .before .before .before .before .before .before .before .before .before .before .before .before .before .before .args .stack .now) (c .before .before .before .before .before .before .before .before .before .before .before .before .before .before .before .args .out .now) (c .before .before .before .before .before .before .before .before .before .loop .stack) (c .before .before .before .before .before .before .before .before .before .loop .out) (record { count = c .before .before .before .before .before .before .before .before .before .loop .count; tail = c .before .before .before .before .before .before .before .before .before .loop .tail; hints = c .before .before .before .before .before .before .before .before .before .loop .hints; mask = c .before .before .before .before .before .before .before .before .before .loop .mask; tokens = c .before .before .before .before .before .before .before .before .before .loop .tokens; length = c .before .before .before .before .before .before .before .before .before .loop .end }) (c .before .before .before .before .before .before .before .before .before .loop .i) (c .before .before .before .before .before .before .before .before .look .result) d (Push _ _) (c .before .before .before .before .before .before .looked .given .1) in omega (arith, d .safe-now, f .2)
+run-add-tail t c = let d = head t (c .before .before .before .before .before .before .before .before) in let f = asks _ _ _ _ _ _ _ _ _ _ _ _ _ d (Push _ _) (c .before .before .before .before .before .before .looked .given .1) in omega (arith, d .safe-now, f .2)
 
 run-add-tokens : (t : ℕ) → Of run-lts.Need-add-tokens t
-run-add-tokens t c = let d = head t (c .before .before .before .before .before .before .before .before) in let f = asks (c .before .before .before .before .before .before .before .before .before .before .before .before .before .before .before .args .cs .now) (c .before .before .before .before .before .before .before .before .before .before .before .before .before .before .before .args .globals .now) (c .before .before .before .before .before .before .before .before .before .before .before .before .before .before .before .args .locals .now) (c .before .before .before .before .before .before .before .before .before .before .before .before .before .before .before .args .by) (c .before .before .before .before .before .before .before .before .before .before .before .before .before .before .before .args .levels) (c .before .before .before .before .before .before .before .before .before .before .before .before .before .before .before .args .s) (c .before .before .before .before .before .before .before .before .before .before .before .before .before .before .before .args .stack .now) (c .before .before .before .before .before .before .before .before .before .before .before .before .before .before .before .args .out .now) (c .before .before .before .before .before .before .before .before .before .loop .stack) (c .before .before .before .before .before .before .before .before .before .loop .out) (record { count = c .before .before .before .before .before .before .before .before .before .loop .count; tail = c .before .before .before .before .before .before .before .before .before .loop .tail; hints = c .before .before .before .before .before .before .before .before .before .loop .hints; mask = c .before .before .before .before .before .before .before .before .before .loop .mask; tokens = c .before .before .before .before .before .before .before .before .before .loop .tokens; length = c .before .before .before .before .before .before .before .before .before .loop .end }) (c .before .before .before .before .before .before .before .before .before .loop .i) (c .before .before .before .before .before .before .before .before .look .result) d (Push _ _) (c .before .before .before .before .before .before .looked .given .1) in omega (arith, f .0)
+run-add-tokens t c = let d = head t (c .before .before .before .before .before .before .before .before) in let f = asks _ _ _ _ _ _ _ _ _ _ _ _ _ d (Push _ _) (c .before .before .before .before .before .before .looked .given .1) in omega (arith, f .0 .within, c .before .before .before .before .before .before .before .before .before .before .before .before .before .before .before .good)
 
 run-loop-less : (t : ℕ) → Of run-lts.Need-loop-less t
-run-loop-less t c = let d = head t (c .before .before .before .before .before .before .before .before) in let f = asks (c .before .before .before .before .before .before .before .before .before .before .before .before .before .before .before .args .cs .now) (c .before .before .before .before .before .before .before .before .before .before .before .before .before .before .before .args .globals .now) (c .before .before .before .before .before .before .before .before .before .before .before .before .before .before .before .args .locals .now) (c .before .before .before .before .before .before .before .before .before .before .before .before .before .before .before .args .by) (c .before .before .before .before .before .before .before .before .before .before .before .before .before .before .before .args .levels) (c .before .before .before .before .before .before .before .before .before .before .before .before .before .before .before .args .s) (c .before .before .before .before .before .before .before .before .before .before .before .before .before .before .before .args .stack .now) (c .before .before .before .before .before .before .before .before .before .before .before .before .before .before .before .args .out .now) (c .before .before .before .before .before .before .before .before .before .loop .stack) (c .before .before .before .before .before .before .before .before .before .loop .out) (record { count = c .before .before .before .before .before .before .before .before .before .loop .count; tail = c .before .before .before .before .before .before .before .before .before .loop .tail; hints = c .before .before .before .before .before .before .before .before .before .loop .hints; mask = c .before .before .before .before .before .before .before .before .before .loop .mask; tokens = c .before .before .before .before .before .before .before .before .before .loop .tokens; length = c .before .before .before .before .before .before .before .before .before .loop .end }) (c .before .before .before .before .before .before .before .before .before .loop .i) (c .before .before .before .before .before .before .before .before .look .result) d (Push _ _) (c .before .before .before .before .before .before .looked .given .1) in omega (arith, f .0)
+run-loop-less t c = let d = head t (c .before .before .before .before .before .before .before .before) in let f = asks _ _ _ _ _ _ _ _ _ _ _ _ _ d (Push _ _) (c .before .before .before .before .before .before .looked .given .1) in omega (arith, f .0)
 
 run-loop-again : (t : ℕ) → Of run-lts.Need-loop-again t
-run-loop-again t c = let d = head t (c .before .before .before .before .before .before .before .before) in let f = asks (c .before .before .before .before .before .before .before .before .before .before .before .before .before .before .before .args .cs .now) (c .before .before .before .before .before .before .before .before .before .before .before .before .before .before .before .args .globals .now) (c .before .before .before .before .before .before .before .before .before .before .before .before .before .before .before .args .locals .now) (c .before .before .before .before .before .before .before .before .before .before .before .before .before .before .before .args .by) (c .before .before .before .before .before .before .before .before .before .before .before .before .before .before .before .args .levels) (c .before .before .before .before .before .before .before .before .before .before .before .before .before .before .before .args .s) (c .before .before .before .before .before .before .before .before .before .before .before .before .before .before .before .args .stack .now) (c .before .before .before .before .before .before .before .before .before .before .before .before .before .before .before .args .out .now) (c .before .before .before .before .before .before .before .before .before .loop .stack) (c .before .before .before .before .before .before .before .before .before .loop .out) (record { count = c .before .before .before .before .before .before .before .before .before .loop .count; tail = c .before .before .before .before .before .before .before .before .before .loop .tail; hints = c .before .before .before .before .before .before .before .before .before .loop .hints; mask = c .before .before .before .before .before .before .before .before .before .loop .mask; tokens = c .before .before .before .before .before .before .before .before .before .loop .tokens; length = c .before .before .before .before .before .before .before .before .before .loop .end }) (c .before .before .before .before .before .before .before .before .before .loop .i) (c .before .before .before .before .before .before .before .before .look .result) d (Push _ _) (c .before .before .before .before .before .before .looked .given .1) in (length-set {A = ℕ} (c .before .before .before .before .before .before .before .before .before .loop .stack) (c .before .before .before .before .before .before .before .before .before .loop .count) (c .pack .result) ∙ c .before .before .before .before .before .before .before .before .before .loop .inv .0, c .before .before .before .put-operand .kept .0 ∙ c .before .before .before .before .before .before .before .before .before .loop .inv .1, arm-push (c .before .before .before .before .before .before .before .before .before .before .before .before .before .before .before .args .cs .now) (c .before .before .before .before .before .before .before .before .before .before .before .before .before .before .before .args .globals .now) (c .before .before .before .before .before .before .before .before .before .before .before .before .before .before .before .args .locals .now) (c .before .before .before .before .before .before .before .before .before .before .before .before .before .before .before .args .by) (c .before .before .before .before .before .before .before .before .before .before .before .before .before .before .before .args .levels) (c .before .before .before .before .before .before .before .before .before .before .before .before .before .before .before .args .s) (c .before .before .before .before .before .before .before .before .before .before .before .before .before .before .before .args .stack .now) (c .before .before .before .before .before .before .before .before .before .before .before .before .before .before .before .args .out .now) (c .before .before .before .before .before .before .before .before .before .loop .stack) (c .before .before .before .before .before .before .before .before .before .loop .out) (record { count = c .before .before .before .before .before .before .before .before .before .loop .count; tail = c .before .before .before .before .before .before .before .before .before .loop .tail; hints = c .before .before .before .before .before .before .before .before .before .loop .hints; mask = c .before .before .before .before .before .before .before .before .before .loop .mask; tokens = c .before .before .before .before .before .before .before .before .before .loop .tokens; length = c .before .before .before .before .before .before .before .before .before .loop .end }) (c .before .before .before .before .before .before .before .before .before .loop .i) (d .turn) (c .before .before .before .before .before .before .looked .given .0 .0) (c .before .before .before .before .before .before .looked .given .0 .1 .0) (c .pack .result) _ _ f (c .pack .ensures) (c .before .before .before .put-operand .ensures .1) (c .before .before .before .put-operand .ensures .0))
+run-loop-again t c = let d = head t (c .before .before .before .before .before .before .before .before) in let f = asks _ _ _ _ _ _ _ _ _ _ _ _ _ d (Push _ _) (c .before .before .before .before .before .before .looked .given .1) in (length-set {A = ℕ} (c .before .before .before .before .before .before .before .before .before .loop .stack) (c .before .before .before .before .before .before .before .before .before .loop .count) (c .pack .result) ∙ c .before .before .before .before .before .before .before .before .before .loop .inv .0, c .before .before .before .put-number .kept .0 ∙ c .before .before .before .before .before .before .before .before .before .loop .inv .1, arm-push _ _ _ _ _ _ _ _ _ _ _ _ (d .turn) _ _ (c .pack .result) _ _ f (c .pack .ensures) (c .before .before .before .put-number .ensures .1) (c .before .before .before .put-number .ensures .0))
 
 run-enum-known-looked-2 : (t : ℕ) → Of run-lts.Need-enum-known-looked-2 t
 run-enum-known-looked-2 t c = search needs
 
 run-put-operator-requires : (t : ℕ) → Of run-lts.Need-put-operator-requires t
-run-put-operator-requires t c κs = let d = head t (c .before .before .before .before) in let f = asks (c .before .before .before .before .before .before .before .before .before .before .before .args .cs .now) (c .before .before .before .before .before .before .before .before .before .before .before .args .globals .now) (c .before .before .before .before .before .before .before .before .before .before .before .args .locals .now) (c .before .before .before .before .before .before .before .before .before .before .before .args .by) (c .before .before .before .before .before .before .before .before .before .before .before .args .levels) (c .before .before .before .before .before .before .before .before .before .before .before .args .s) (c .before .before .before .before .before .before .before .before .before .before .before .args .stack .now) (c .before .before .before .before .before .before .before .before .before .before .before .args .out .now) (c .before .before .before .before .before .loop .stack) (c .before .before .before .before .before .loop .out) (record { count = c .before .before .before .before .before .loop .count; tail = c .before .before .before .before .before .loop .tail; hints = c .before .before .before .before .before .loop .hints; mask = c .before .before .before .before .before .loop .mask; tokens = c .before .before .before .before .before .loop .tokens; length = c .before .before .before .before .before .loop .end }) (c .before .before .before .before .before .loop .i) (c .before .before .before .before .look .result) d (Plain _ _ _) (c .before .before .looked2 .given .1) in omega (arith, d .safe-now, f .0 .begun)
+run-put-operator-requires t c κs = let d = head t (c .before .before .before .before) in let f = asks _ _ _ _ _ _ _ _ _ _ _ _ _ d (Plain _ _ _) (c .before .before .looked2 .given .1) in omega (arith, d .safe-now, f .0 .begun)
 
 run-add-tokens-2 : (t : ℕ) → Of run-lts.Need-add-tokens-2 t
-run-add-tokens-2 t c = let d = head t (c .before .before .before .before .before .before .before) in let f = asks (c .before .before .before .before .before .before .before .before .before .before .before .before .before .before .args .cs .now) (c .before .before .before .before .before .before .before .before .before .before .before .before .before .before .args .globals .now) (c .before .before .before .before .before .before .before .before .before .before .before .before .before .before .args .locals .now) (c .before .before .before .before .before .before .before .before .before .before .before .before .before .before .args .by) (c .before .before .before .before .before .before .before .before .before .before .before .before .before .before .args .levels) (c .before .before .before .before .before .before .before .before .before .before .before .before .before .before .args .s) (c .before .before .before .before .before .before .before .before .before .before .before .before .before .before .args .stack .now) (c .before .before .before .before .before .before .before .before .before .before .before .before .before .before .args .out .now) (c .before .before .before .before .before .before .before .before .loop .stack) (c .before .before .before .before .before .before .before .before .loop .out) (record { count = c .before .before .before .before .before .before .before .before .loop .count; tail = c .before .before .before .before .before .before .before .before .loop .tail; hints = c .before .before .before .before .before .before .before .before .loop .hints; mask = c .before .before .before .before .before .before .before .before .loop .mask; tokens = c .before .before .before .before .before .before .before .before .loop .tokens; length = c .before .before .before .before .before .before .before .before .loop .end }) (c .before .before .before .before .before .before .before .before .loop .i) (c .before .before .before .before .before .before .before .look .result) d (Plain _ _ _) (c .before .before .before .before .before .looked2 .given .1) in omega (arith, f .0 .begun)
+run-add-tokens-2 t c = let d = head t (c .before .before .before .before .before .before .before) in let f = asks _ _ _ _ _ _ _ _ _ _ _ _ _ d (Plain _ _ _) (c .before .before .before .before .before .looked2 .given .1) in omega (arith, f .0 .begun)
 
 run-loop-less-2 : (t : ℕ) → Of run-lts.Need-loop-less-2 t
-run-loop-less-2 t c = let d = head t (c .before .before .before .before .before .before .before) in let f = asks (c .before .before .before .before .before .before .before .before .before .before .before .before .before .before .args .cs .now) (c .before .before .before .before .before .before .before .before .before .before .before .before .before .before .args .globals .now) (c .before .before .before .before .before .before .before .before .before .before .before .before .before .before .args .locals .now) (c .before .before .before .before .before .before .before .before .before .before .before .before .before .before .args .by) (c .before .before .before .before .before .before .before .before .before .before .before .before .before .before .args .levels) (c .before .before .before .before .before .before .before .before .before .before .before .before .before .before .args .s) (c .before .before .before .before .before .before .before .before .before .before .before .before .before .before .args .stack .now) (c .before .before .before .before .before .before .before .before .before .before .before .before .before .before .args .out .now) (c .before .before .before .before .before .before .before .before .loop .stack) (c .before .before .before .before .before .before .before .before .loop .out) (record { count = c .before .before .before .before .before .before .before .before .loop .count; tail = c .before .before .before .before .before .before .before .before .loop .tail; hints = c .before .before .before .before .before .before .before .before .loop .hints; mask = c .before .before .before .before .before .before .before .before .loop .mask; tokens = c .before .before .before .before .before .before .before .before .loop .tokens; length = c .before .before .before .before .before .before .before .before .loop .end }) (c .before .before .before .before .before .before .before .before .loop .i) (c .before .before .before .before .before .before .before .look .result) d (Plain _ _ _) (c .before .before .before .before .before .looked2 .given .1) in omega (arith, f .0 .begun)
+run-loop-less-2 t c = let d = head t (c .before .before .before .before .before .before .before) in let f = asks _ _ _ _ _ _ _ _ _ _ _ _ _ d (Plain _ _ _) (c .before .before .before .before .before .looked2 .given .1) in omega (arith, f .0 .begun)
 
 run-loop-again-2 : (t : ℕ) → Of run-lts.Need-loop-again-2 t
-run-loop-again-2 t c = let d = head t (c .before .before .before .before .before .before .before) in let f = asks (c .before .before .before .before .before .before .before .before .before .before .before .before .before .before .args .cs .now) (c .before .before .before .before .before .before .before .before .before .before .before .before .before .before .args .globals .now) (c .before .before .before .before .before .before .before .before .before .before .before .before .before .before .args .locals .now) (c .before .before .before .before .before .before .before .before .before .before .before .before .before .before .args .by) (c .before .before .before .before .before .before .before .before .before .before .before .before .before .before .args .levels) (c .before .before .before .before .before .before .before .before .before .before .before .before .before .before .args .s) (c .before .before .before .before .before .before .before .before .before .before .before .before .before .before .args .stack .now) (c .before .before .before .before .before .before .before .before .before .before .before .before .before .before .args .out .now) (c .before .before .before .before .before .before .before .before .loop .stack) (c .before .before .before .before .before .before .before .before .loop .out) (record { count = c .before .before .before .before .before .before .before .before .loop .count; tail = c .before .before .before .before .before .before .before .before .loop .tail; hints = c .before .before .before .before .before .before .before .before .loop .hints; mask = c .before .before .before .before .before .before .before .before .loop .mask; tokens = c .before .before .before .before .before .before .before .before .loop .tokens; length = c .before .before .before .before .before .before .before .before .loop .end }) (c .before .before .before .before .before .before .before .before .loop .i) (c .before .before .before .before .before .before .before .look .result) d (Plain _ _ _) (c .before .before .before .before .before .looked2 .given .1) in (c .before .before .before .before .before .before .before .before .loop .inv .0, c .before .before .put-operator .kept .0 ∙ c .before .before .before .before .before .before .before .before .loop .inv .1, arm-plain (c .before .before .before .before .before .before .before .before .before .before .before .before .before .before .args .cs .now) (c .before .before .before .before .before .before .before .before .before .before .before .before .before .before .args .globals .now) (c .before .before .before .before .before .before .before .before .before .before .before .before .before .before .args .locals .now) (c .before .before .before .before .before .before .before .before .before .before .before .before .before .before .args .by) (c .before .before .before .before .before .before .before .before .before .before .before .before .before .before .args .levels) (c .before .before .before .before .before .before .before .before .before .before .before .before .before .before .args .s) (c .before .before .before .before .before .before .before .before .before .before .before .before .before .before .args .stack .now) (c .before .before .before .before .before .before .before .before .before .before .before .before .before .before .args .out .now) (c .before .before .before .before .before .before .before .before .loop .stack) (c .before .before .before .before .before .before .before .before .loop .out) (record { count = c .before .before .before .before .before .before .before .before .loop .count; tail = c .before .before .before .before .before .before .before .before .loop .tail; hints = c .before .before .before .before .before .before .before .before .loop .hints; mask = c .before .before .before .before .before .before .before .before .loop .mask; tokens = c .before .before .before .before .before .before .before .before .loop .tokens; length = c .before .before .before .before .before .before .before .before .loop .end }) (c .before .before .before .before .before .before .before .before .loop .i) (d .turn) (c .before .before .before .before .before .looked2 .given .0 .0) (c .before .before .before .before .before .looked2 .given .0 .1 .0) (c .before .before .before .before .before .looked2 .given .0 .1 .1 .0) _ _ f (c .before .before .put-operator .ensures .1) (c .before .before .put-operator .ensures .0))
+run-loop-again-2 t c = let d = head t (c .before .before .before .before .before .before .before) in let f = asks _ _ _ _ _ _ _ _ _ _ _ _ _ d (Plain _ _ _) (c .before .before .before .before .before .looked2 .given .1) in (c .before .before .before .before .before .before .before .before .loop .inv .0, c .before .before .put-operator .kept .0 ∙ c .before .before .before .before .before .before .before .before .loop .inv .1, arm-plain _ _ _ _ _ _ _ _ _ _ _ _ (d .turn) _ _ _ _ _ f (c .before .before .put-operator .ensures .1) (c .before .before .put-operator .ensures .0))
 
 run-enum-known-looked-3 : (t : ℕ) → Of run-lts.Need-enum-known-looked-3 t
 run-enum-known-looked-3 t c = search needs
 
 run-put-operator-requires-2 : (t : ℕ) → Of run-lts.Need-put-operator-requires-2 t
-run-put-operator-requires-2 t c κs = let d = head t (c .before .before .before .before) in let f = asks (c .before .before .before .before .before .before .before .before .before .before .before .args .cs .now) (c .before .before .before .before .before .before .before .before .before .before .before .args .globals .now) (c .before .before .before .before .before .before .before .before .before .before .before .args .locals .now) (c .before .before .before .before .before .before .before .before .before .before .before .args .by) (c .before .before .before .before .before .before .before .before .before .before .before .args .levels) (c .before .before .before .before .before .before .before .before .before .before .before .args .s) (c .before .before .before .before .before .before .before .before .before .before .before .args .stack .now) (c .before .before .before .before .before .before .before .before .before .before .before .args .out .now) (c .before .before .before .before .before .loop .stack) (c .before .before .before .before .before .loop .out) (record { count = c .before .before .before .before .before .loop .count; tail = c .before .before .before .before .before .loop .tail; hints = c .before .before .before .before .before .loop .hints; mask = c .before .before .before .before .before .loop .mask; tokens = c .before .before .before .before .before .loop .tokens; length = c .before .before .before .before .before .loop .end }) (c .before .before .before .before .before .loop .i) (c .before .before .before .before .look .result) d (Mask _ _ _ _ _) (c .before .before .looked3 .given .1) in omega (arith, d .safe-now, f .0 .begun)
+run-put-operator-requires-2 t c κs = let d = head t (c .before .before .before .before) in let f = asks _ _ _ _ _ _ _ _ _ _ _ _ _ d (Mask _ _ _ _ _) (c .before .before .looked3 .given .1) in omega (arith, d .safe-now, f .0 .begun)
 
-run-sub-put-mask : (t : ℕ) → Of run-lts.Need-sub-put-mask t
-run-sub-put-mask t c = let d = head t (c .before .before .before .before .before .before .before .before) in let f = asks (c .before .before .before .before .before .before .before .before .before .before .before .before .before .before .before .args .cs .now) (c .before .before .before .before .before .before .before .before .before .before .before .before .before .before .before .args .globals .now) (c .before .before .before .before .before .before .before .before .before .before .before .before .before .before .before .args .locals .now) (c .before .before .before .before .before .before .before .before .before .before .before .before .before .before .before .args .by) (c .before .before .before .before .before .before .before .before .before .before .before .before .before .before .before .args .levels) (c .before .before .before .before .before .before .before .before .before .before .before .before .before .before .before .args .s) (c .before .before .before .before .before .before .before .before .before .before .before .before .before .before .before .args .stack .now) (c .before .before .before .before .before .before .before .before .before .before .before .before .before .before .before .args .out .now) (c .before .before .before .before .before .before .before .before .before .loop .stack) (c .before .before .before .before .before .before .before .before .before .loop .out) (record { count = c .before .before .before .before .before .before .before .before .before .loop .count; tail = c .before .before .before .before .before .before .before .before .before .loop .tail; hints = c .before .before .before .before .before .before .before .before .before .loop .hints; mask = c .before .before .before .before .before .before .before .before .before .loop .mask; tokens = c .before .before .before .before .before .before .before .before .before .loop .tokens; length = c .before .before .before .before .before .before .before .before .before .loop .end }) (c .before .before .before .before .before .before .before .before .before .loop .i) (c .before .before .before .before .before .before .before .before .look .result) d (Mask _ _ _ _ _) (c .before .before .before .before .before .before .looked3 .given .1) in omega (arith, f .3)
+run-sub-put-bytes : (t : ℕ) → Of run-lts.Need-sub-put-bytes t
+run-sub-put-bytes t c = let d = head t (c .before .before .before .before .before .before .before .before) in let f = asks _ _ _ _ _ _ _ _ _ _ _ _ _ d (Mask _ _ _ _ _) (c .before .before .before .before .before .before .looked3 .given .1) in omega (arith, f .3)
 
-run-part-put-mask-start : (t : ℕ) → Of run-lts.Need-part-put-mask-start t
-run-part-put-mask-start t c = let d = head t (c .before .before .before .before .before .before .before .before) in let f = asks (c .before .before .before .before .before .before .before .before .before .before .before .before .before .before .before .args .cs .now) (c .before .before .before .before .before .before .before .before .before .before .before .before .before .before .before .args .globals .now) (c .before .before .before .before .before .before .before .before .before .before .before .before .before .before .before .args .locals .now) (c .before .before .before .before .before .before .before .before .before .before .before .before .before .before .before .args .by) (c .before .before .before .before .before .before .before .before .before .before .before .before .before .before .before .args .levels) (c .before .before .before .before .before .before .before .before .before .before .before .before .before .before .before .args .s) (c .before .before .before .before .before .before .before .before .before .before .before .before .before .before .before .args .stack .now) (c .before .before .before .before .before .before .before .before .before .before .before .before .before .before .before .args .out .now) (c .before .before .before .before .before .before .before .before .before .loop .stack) (c .before .before .before .before .before .before .before .before .before .loop .out) (record { count = c .before .before .before .before .before .before .before .before .before .loop .count; tail = c .before .before .before .before .before .before .before .before .before .loop .tail; hints = c .before .before .before .before .before .before .before .before .before .loop .hints; mask = c .before .before .before .before .before .before .before .before .before .loop .mask; tokens = c .before .before .before .before .before .before .before .before .before .loop .tokens; length = c .before .before .before .before .before .before .before .before .before .loop .end }) (c .before .before .before .before .before .before .before .before .before .loop .i) (c .before .before .before .before .before .before .before .before .look .result) d (Mask _ _ _ _ _) (c .before .before .before .before .before .before .looked3 .given .1) in omega (arith, f .3, f .4)
+run-part-put-bytes-start : (t : ℕ) → Of run-lts.Need-part-put-bytes-start t
+run-part-put-bytes-start t c = let d = head t (c .before .before .before .before .before .before .before .before) in let f = asks _ _ _ _ _ _ _ _ _ _ _ _ _ d (Mask _ _ _ _ _) (c .before .before .before .before .before .before .looked3 .given .1) in omega (arith, f .3, f .4)
 
-run-part-put-mask-end : (t : ℕ) → Of run-lts.Need-part-put-mask-end t
-run-part-put-mask-end t c = let d = head t (c .before .before .before .before .before .before .before .before) in let f = asks (c .before .before .before .before .before .before .before .before .before .before .before .before .before .before .before .args .cs .now) (c .before .before .before .before .before .before .before .before .before .before .before .before .before .before .before .args .globals .now) (c .before .before .before .before .before .before .before .before .before .before .before .before .before .before .before .args .locals .now) (c .before .before .before .before .before .before .before .before .before .before .before .before .before .before .before .args .by) (c .before .before .before .before .before .before .before .before .before .before .before .before .before .before .before .args .levels) (c .before .before .before .before .before .before .before .before .before .before .before .before .before .before .before .args .s) (c .before .before .before .before .before .before .before .before .before .before .before .before .before .before .before .args .stack .now) (c .before .before .before .before .before .before .before .before .before .before .before .before .before .before .before .args .out .now) (c .before .before .before .before .before .before .before .before .before .loop .stack) (c .before .before .before .before .before .before .before .before .before .loop .out) (record { count = c .before .before .before .before .before .before .before .before .before .loop .count; tail = c .before .before .before .before .before .before .before .before .before .loop .tail; hints = c .before .before .before .before .before .before .before .before .before .loop .hints; mask = c .before .before .before .before .before .before .before .before .before .loop .mask; tokens = c .before .before .before .before .before .before .before .before .before .loop .tokens; length = c .before .before .before .before .before .before .before .before .before .loop .end }) (c .before .before .before .before .before .before .before .before .before .loop .i) (c .before .before .before .before .before .before .before .before .look .result) d (Mask _ _ _ _ _) (c .before .before .before .before .before .before .looked3 .given .1) in omega (arith, f .3, f .4)
+run-part-put-bytes-end : (t : ℕ) → Of run-lts.Need-part-put-bytes-end t
+run-part-put-bytes-end t c = let d = head t (c .before .before .before .before .before .before .before .before) in let f = asks _ _ _ _ _ _ _ _ _ _ _ _ _ d (Mask _ _ _ _ _) (c .before .before .before .before .before .before .looked3 .given .1) in omega (arith, f .3, f .4)
 
-run-put-mask-requires : (t : ℕ) → Of run-lts.Need-put-mask-requires t
-run-put-mask-requires t c κs = let d = head t (c .before .before .before .before .before .before .before .before .before) in let f = asks (c .before .before .before .before .before .before .before .before .before .before .before .before .before .before .before .before .args .cs .now) (c .before .before .before .before .before .before .before .before .before .before .before .before .before .before .before .before .args .globals .now) (c .before .before .before .before .before .before .before .before .before .before .before .before .before .before .before .before .args .locals .now) (c .before .before .before .before .before .before .before .before .before .before .before .before .before .before .before .before .args .by) (c .before .before .before .before .before .before .before .before .before .before .before .before .before .before .before .before .args .levels) (c .before .before .before .before .before .before .before .before .before .before .before .before .before .before .before .before .args .s) (c .before .before .before .before .before .before .before .before .before .before .before .before .before .before .before .before .args .stack .now) (c .before .before .before .before .before .before .before .before .before .before .before .before .before .before .before .before .args .out .now) (c .before .before .before .before .before .before .before .before .before .before .loop .stack) (c .before .before .before .before .before .before .before .before .before .before .loop .out) (record { count = c .before .before .before .before .before .before .before .before .before .before .loop .count; tail = c .before .before .before .before .before .before .before .before .before .before .loop .tail; hints = c .before .before .before .before .before .before .before .before .before .before .loop .hints; mask = c .before .before .before .before .before .before .before .before .before .before .loop .mask; tokens = c .before .before .before .before .before .before .before .before .before .before .loop .tokens; length = c .before .before .before .before .before .before .before .before .before .before .loop .end }) (c .before .before .before .before .before .before .before .before .before .before .loop .i) (c .before .before .before .before .before .before .before .before .before .look .result) d (Mask _ _ _ _ _) (c .before .before .before .before .before .before .before .looked3 .given .1) in let k = c .before .before .before .before .put-operator2 .kept .0 in let e = c .before .before .before .before .put-operator2 .ensures .0 in let w = operator-two (c .before .before .before .before .before .before .before .looked3 .given .0 .0) in (let z = d .safe-now .stored in omega arith, omega (arith, d .safe-now .small, f .0 .begun .within, c .before .before .before .before .before .before .before .before .before .before .before .before .before .before .before .before .good))
+run-put-bytes-requires : (t : ℕ) → Of run-lts.Need-put-bytes-requires t
+run-put-bytes-requires t c κs = let d = head t (c .before .before .before .before .before .before .before .before .before) in let f = asks _ _ _ _ _ _ _ _ _ _ _ _ _ d (Mask _ _ _ _ _) (c .before .before .before .before .before .before .before .looked3 .given .1) in let k = c .before .before .before .before .put-operator2 .kept .0 in let e = c .before .before .before .before .put-operator2 .ensures .0 in let w = operator-two (c .before .before .before .before .before .before .before .looked3 .given .0 .1 .1 .1 .1 .0) in (let z = d .safe-now .stored in omega arith, omega (arith, d .safe-now .small, f .0 .begun .within, c .before .before .before .before .before .before .before .before .before .before .before .before .before .before .before .before .good))
 
 run-sub-mask : (t : ℕ) → Of run-lts.Need-sub-mask t
-run-sub-mask t c = let d = head t (c .before .before .before .before .before .before .before .before .before .before .before .before) in let f = asks (c .before .before .before .before .before .before .before .before .before .before .before .before .before .before .before .before .before .before .before .args .cs .now) (c .before .before .before .before .before .before .before .before .before .before .before .before .before .before .before .before .before .before .before .args .globals .now) (c .before .before .before .before .before .before .before .before .before .before .before .before .before .before .before .before .before .before .before .args .locals .now) (c .before .before .before .before .before .before .before .before .before .before .before .before .before .before .before .before .before .before .before .args .by) (c .before .before .before .before .before .before .before .before .before .before .before .before .before .before .before .before .before .before .before .args .levels) (c .before .before .before .before .before .before .before .before .before .before .before .before .before .before .before .before .before .before .before .args .s) (c .before .before .before .before .before .before .before .before .before .before .before .before .before .before .before .before .before .before .before .args .stack .now) (c .before .before .before .before .before .before .before .before .before .before .before .before .before .before .before .before .before .before .before .args .out .now) (c .before .before .before .before .before .before .before .before .before .before .before .before .before .loop .stack) (c .before .before .before .before .before .before .before .before .before .before .before .before .before .loop .out) (record { count = c .before .before .before .before .before .before .before .before .before .before .before .before .before .loop .count; tail = c .before .before .before .before .before .before .before .before .before .before .before .before .before .loop .tail; hints = c .before .before .before .before .before .before .before .before .before .before .before .before .before .loop .hints; mask = c .before .before .before .before .before .before .before .before .before .before .before .before .before .loop .mask; tokens = c .before .before .before .before .before .before .before .before .before .before .before .before .before .loop .tokens; length = c .before .before .before .before .before .before .before .before .before .before .before .before .before .loop .end }) (c .before .before .before .before .before .before .before .before .before .before .before .before .before .loop .i) (c .before .before .before .before .before .before .before .before .before .before .before .before .look .result) d (Mask _ _ _ _ _) (c .before .before .before .before .before .before .before .before .before .before .looked3 .given .1) in omega (arith, f .3)
+run-sub-mask t c = let d = head t (c .before .before .before .before .before .before .before .before .before .before .before .before) in let f = asks _ _ _ _ _ _ _ _ _ _ _ _ _ d (Mask _ _ _ _ _) (c .before .before .before .before .before .before .before .before .before .before .looked3 .given .1) in omega (arith, f .3)
 
 run-add-tokens-3 : (t : ℕ) → Of run-lts.Need-add-tokens-3 t
-run-add-tokens-3 t c = let d = head t (c .before .before .before .before .before .before .before .before .before .before .before .before) in let f = asks (c .before .before .before .before .before .before .before .before .before .before .before .before .before .before .before .before .before .before .before .args .cs .now) (c .before .before .before .before .before .before .before .before .before .before .before .before .before .before .before .before .before .before .before .args .globals .now) (c .before .before .before .before .before .before .before .before .before .before .before .before .before .before .before .before .before .before .before .args .locals .now) (c .before .before .before .before .before .before .before .before .before .before .before .before .before .before .before .before .before .before .before .args .by) (c .before .before .before .before .before .before .before .before .before .before .before .before .before .before .before .before .before .before .before .args .levels) (c .before .before .before .before .before .before .before .before .before .before .before .before .before .before .before .before .before .before .before .args .s) (c .before .before .before .before .before .before .before .before .before .before .before .before .before .before .before .before .before .before .before .args .stack .now) (c .before .before .before .before .before .before .before .before .before .before .before .before .before .before .before .before .before .before .before .args .out .now) (c .before .before .before .before .before .before .before .before .before .before .before .before .before .loop .stack) (c .before .before .before .before .before .before .before .before .before .before .before .before .before .loop .out) (record { count = c .before .before .before .before .before .before .before .before .before .before .before .before .before .loop .count; tail = c .before .before .before .before .before .before .before .before .before .before .before .before .before .loop .tail; hints = c .before .before .before .before .before .before .before .before .before .before .before .before .before .loop .hints; mask = c .before .before .before .before .before .before .before .before .before .before .before .before .before .loop .mask; tokens = c .before .before .before .before .before .before .before .before .before .before .before .before .before .loop .tokens; length = c .before .before .before .before .before .before .before .before .before .before .before .before .before .loop .end }) (c .before .before .before .before .before .before .before .before .before .before .before .before .before .loop .i) (c .before .before .before .before .before .before .before .before .before .before .before .before .look .result) d (Mask _ _ _ _ _) (c .before .before .before .before .before .before .before .before .before .before .looked3 .given .1) in omega (arith, f .0 .begun .within, c .before .before .before .before .before .before .before .before .before .before .before .before .before .before .before .before .before .before .before .good)
+run-add-tokens-3 t c = let d = head t (c .before .before .before .before .before .before .before .before .before .before .before .before) in let f = asks _ _ _ _ _ _ _ _ _ _ _ _ _ d (Mask _ _ _ _ _) (c .before .before .before .before .before .before .before .before .before .before .looked3 .given .1) in omega (arith, f .0 .begun .within, c .before .before .before .before .before .before .before .before .before .before .before .before .before .before .before .before .before .before .before .good)
 
 run-loop-less-3 : (t : ℕ) → Of run-lts.Need-loop-less-3 t
-run-loop-less-3 t c = let d = head t (c .before .before .before .before .before .before .before .before .before .before .before .before) in let f = asks (c .before .before .before .before .before .before .before .before .before .before .before .before .before .before .before .before .before .before .before .args .cs .now) (c .before .before .before .before .before .before .before .before .before .before .before .before .before .before .before .before .before .before .before .args .globals .now) (c .before .before .before .before .before .before .before .before .before .before .before .before .before .before .before .before .before .before .before .args .locals .now) (c .before .before .before .before .before .before .before .before .before .before .before .before .before .before .before .before .before .before .before .args .by) (c .before .before .before .before .before .before .before .before .before .before .before .before .before .before .before .before .before .before .before .args .levels) (c .before .before .before .before .before .before .before .before .before .before .before .before .before .before .before .before .before .before .before .args .s) (c .before .before .before .before .before .before .before .before .before .before .before .before .before .before .before .before .before .before .before .args .stack .now) (c .before .before .before .before .before .before .before .before .before .before .before .before .before .before .before .before .before .before .before .args .out .now) (c .before .before .before .before .before .before .before .before .before .before .before .before .before .loop .stack) (c .before .before .before .before .before .before .before .before .before .before .before .before .before .loop .out) (record { count = c .before .before .before .before .before .before .before .before .before .before .before .before .before .loop .count; tail = c .before .before .before .before .before .before .before .before .before .before .before .before .before .loop .tail; hints = c .before .before .before .before .before .before .before .before .before .before .before .before .before .loop .hints; mask = c .before .before .before .before .before .before .before .before .before .before .before .before .before .loop .mask; tokens = c .before .before .before .before .before .before .before .before .before .before .before .before .before .loop .tokens; length = c .before .before .before .before .before .before .before .before .before .before .before .before .before .loop .end }) (c .before .before .before .before .before .before .before .before .before .before .before .before .before .loop .i) (c .before .before .before .before .before .before .before .before .before .before .before .before .look .result) d (Mask _ _ _ _ _) (c .before .before .before .before .before .before .before .before .before .before .looked3 .given .1) in omega (arith, f .0 .begun, f .3, f .4)
+run-loop-less-3 t c = let d = head t (c .before .before .before .before .before .before .before .before .before .before .before .before) in let f = asks _ _ _ _ _ _ _ _ _ _ _ _ _ d (Mask _ _ _ _ _) (c .before .before .before .before .before .before .before .before .before .before .looked3 .given .1) in omega (arith, f .0 .begun, f .3, f .4)
 
 run-loop-again-3 : (t : ℕ) → Of run-lts.Need-loop-again-3 t
-run-loop-again-3 t c = let d = head t (c .before .before .before .before .before .before .before .before .before .before .before .before) in let f = asks (c .before .before .before .before .before .before .before .before .before .before .before .before .before .before .before .before .before .before .before .args .cs .now) (c .before .before .before .before .before .before .before .before .before .before .before .before .before .before .before .before .before .before .before .args .globals .now) (c .before .before .before .before .before .before .before .before .before .before .before .before .before .before .before .before .before .before .before .args .locals .now) (c .before .before .before .before .before .before .before .before .before .before .before .before .before .before .before .before .before .before .before .args .by) (c .before .before .before .before .before .before .before .before .before .before .before .before .before .before .before .before .before .before .before .args .levels) (c .before .before .before .before .before .before .before .before .before .before .before .before .before .before .before .before .before .before .before .args .s) (c .before .before .before .before .before .before .before .before .before .before .before .before .before .before .before .before .before .before .before .args .stack .now) (c .before .before .before .before .before .before .before .before .before .before .before .before .before .before .before .before .before .before .before .args .out .now) (c .before .before .before .before .before .before .before .before .before .before .before .before .before .loop .stack) (c .before .before .before .before .before .before .before .before .before .before .before .before .before .loop .out) (record { count = c .before .before .before .before .before .before .before .before .before .before .before .before .before .loop .count; tail = c .before .before .before .before .before .before .before .before .before .before .before .before .before .loop .tail; hints = c .before .before .before .before .before .before .before .before .before .before .before .before .before .loop .hints; mask = c .before .before .before .before .before .before .before .before .before .before .before .before .before .loop .mask; tokens = c .before .before .before .before .before .before .before .before .before .before .before .before .before .loop .tokens; length = c .before .before .before .before .before .before .before .before .before .before .before .before .before .loop .end }) (c .before .before .before .before .before .before .before .before .before .before .before .before .before .loop .i) (c .before .before .before .before .before .before .before .before .before .before .before .before .look .result) d (Mask _ _ _ _ _) (c .before .before .before .before .before .before .before .before .before .before .looked3 .given .1) in (c .before .before .before .before .before .before .before .before .before .before .before .before .before .loop .inv .0, c .before .before .put-mask .kept .0 ∙ c .before .before .before .before .before .before .before .put-operator2 .kept .0 ∙ c .before .before .before .before .before .before .before .before .before .before .before .before .before .loop .inv .1, arm-mask (c .before .before .before .before .before .before .before .before .before .before .before .before .before .before .before .before .before .before .before .args .cs .now) (c .before .before .before .before .before .before .before .before .before .before .before .before .before .before .before .before .before .before .before .args .globals .now) (c .before .before .before .before .before .before .before .before .before .before .before .before .before .before .before .before .before .before .before .args .locals .now) (c .before .before .before .before .before .before .before .before .before .before .before .before .before .before .before .before .before .before .before .args .by) (c .before .before .before .before .before .before .before .before .before .before .before .before .before .before .before .before .before .before .before .args .levels) (c .before .before .before .before .before .before .before .before .before .before .before .before .before .before .before .before .before .before .before .args .s) (c .before .before .before .before .before .before .before .before .before .before .before .before .before .before .before .before .before .before .before .args .stack .now) (c .before .before .before .before .before .before .before .before .before .before .before .before .before .before .before .before .before .before .before .args .out .now) (c .before .before .before .before .before .before .before .before .before .before .before .before .before .loop .stack) (c .before .before .before .before .before .before .before .before .before .before .before .before .before .loop .out) (record { count = c .before .before .before .before .before .before .before .before .before .before .before .before .before .loop .count; tail = c .before .before .before .before .before .before .before .before .before .before .before .before .before .loop .tail; hints = c .before .before .before .before .before .before .before .before .before .before .before .before .before .loop .hints; mask = c .before .before .before .before .before .before .before .before .before .before .before .before .before .loop .mask; tokens = c .before .before .before .before .before .before .before .before .before .before .before .before .before .loop .tokens; length = c .before .before .before .before .before .before .before .before .before .before .before .before .before .loop .end }) (c .before .before .before .before .before .before .before .before .before .before .before .before .before .loop .i) (d .turn) (c .before .before .before .before .before .before .before .before .before .before .looked3 .given .0 .0) (c .before .before .before .before .before .before .before .before .before .before .looked3 .given .0 .1 .0) (c .before .before .before .before .before .before .before .before .before .before .looked3 .given .0 .1 .1 .0) (c .before .before .before .before .before .before .before .before .before .before .looked3 .given .0 .1 .1 .1 .0) (c .before .before .before .before .before .before .before .before .before .before .looked3 .given .0 .1 .1 .1 .1 .0) _ _ _ _ f (c .before .before .before .before .before .before .before .put-operator2 .ensures .1) (c .before .before .before .before .before .before .before .put-operator2 .ensures .0) (c .before .before .put-mask .ensures .1) (c .before .before .put-mask .ensures .0 ∙ ap (λ (n : ℕ). c .before .before .before .before .before .before .before .put-operator2 .result + n) (part-long (c .before .before .before .before .before .before .before .before .before .before .before .before .before .before .before .before .before .before .before .args .cs .now) (c .before .before .before .before .before .before .before .before .before .before .looked3 .given .0 .1 .0) (c .before .before .before .before .before .before .before .before .before .before .looked3 .given .0 .1 .1 .0) (f .3) (f .4))))
+run-loop-again-3 t c = let d = head t (c .before .before .before .before .before .before .before .before .before .before .before .before) in let f = asks _ _ _ _ _ _ _ _ _ _ _ _ _ d (Mask _ _ _ _ _) (c .before .before .before .before .before .before .before .before .before .before .looked3 .given .1) in (c .before .before .before .before .before .before .before .before .before .before .before .before .before .loop .inv .0, c .before .before .put-bytes .kept .0 ∙ c .before .before .before .before .before .before .before .put-operator2 .kept .0 ∙ c .before .before .before .before .before .before .before .before .before .before .before .before .before .loop .inv .1, arm-mask _ _ _ _ _ _ _ _ _ _ _ _ (d .turn) _ _ _ _ _ _ _ _ _ f (c .before .before .before .before .before .before .before .put-operator2 .ensures .1) (c .before .before .before .before .before .before .before .put-operator2 .ensures .0) (c .before .before .put-bytes .ensures .1) (c .before .before .put-bytes .ensures .0 ∙ ap (λ (n : ℕ). c .before .before .before .before .before .before .before .put-operator2 .result + n) (part-long (c .before .before .before .before .before .before .before .before .before .before .before .before .before .before .before .before .before .before .before .args .cs .now) (c .before .before .before .before .before .before .before .before .before .before .looked3 .given .0 .0) (c .before .before .before .before .before .before .before .before .before .before .looked3 .given .0 .1 .0) (f .3) (f .4))))
 
 run-enum-known-looked-4 : (t : ℕ) → Of run-lts.Need-enum-known-looked-4 t
 run-enum-known-looked-4 t c = search needs
 
 run-sub-unpack : (t : ℕ) → Of run-lts.Need-sub-unpack t
-run-sub-unpack t c = let d = head t (c .before .before .before) in let f = asks (c .before .before .before .before .before .before .before .before .before .before .args .cs .now) (c .before .before .before .before .before .before .before .before .before .before .args .globals .now) (c .before .before .before .before .before .before .before .before .before .before .args .locals .now) (c .before .before .before .before .before .before .before .before .before .before .args .by) (c .before .before .before .before .before .before .before .before .before .before .args .levels) (c .before .before .before .before .before .before .before .before .before .before .args .s) (c .before .before .before .before .before .before .before .before .before .before .args .stack .now) (c .before .before .before .before .before .before .before .before .before .before .args .out .now) (c .before .before .before .before .loop .stack) (c .before .before .before .before .loop .out) (record { count = c .before .before .before .before .loop .count; tail = c .before .before .before .before .loop .tail; hints = c .before .before .before .before .loop .hints; mask = c .before .before .before .before .loop .mask; tokens = c .before .before .before .before .loop .tokens; length = c .before .before .before .before .loop .end }) (c .before .before .before .before .loop .i) (c .before .before .before .look .result) d (Call _ _) (c .before .looked4 .given .1) in omega (arith, f .3)
+run-sub-unpack t c = let d = head t (c .before .before .before) in let f = asks _ _ _ _ _ _ _ _ _ _ _ _ _ d (Call _ _) (c .before .looked4 .given .1) in omega (arith, f .3)
 
 run-mul-unpack : (t : ℕ) → Of run-lts.Need-mul-unpack t
-run-mul-unpack t c = let d = head t (c .before .before .before) in let f = asks (c .before .before .before .before .before .before .before .before .before .before .args .cs .now) (c .before .before .before .before .before .before .before .before .before .before .args .globals .now) (c .before .before .before .before .before .before .before .before .before .before .args .locals .now) (c .before .before .before .before .before .before .before .before .before .before .args .by) (c .before .before .before .before .before .before .before .before .before .before .args .levels) (c .before .before .before .before .before .before .before .before .before .before .args .s) (c .before .before .before .before .before .before .before .before .before .before .args .stack .now) (c .before .before .before .before .before .before .before .before .before .before .args .out .now) (c .before .before .before .before .loop .stack) (c .before .before .before .before .loop .out) (record { count = c .before .before .before .before .loop .count; tail = c .before .before .before .before .loop .tail; hints = c .before .before .before .before .loop .hints; mask = c .before .before .before .before .loop .mask; tokens = c .before .before .before .before .loop .tokens; length = c .before .before .before .before .loop .end }) (c .before .before .before .before .loop .i) (c .before .before .before .look .result) d (Call _ _) (c .before .looked4 .given .1) in omega (arith, f .3, d .safe-now)
+run-mul-unpack t c = let d = head t (c .before .before .before) in let f = asks _ _ _ _ _ _ _ _ _ _ _ _ _ d (Call _ _) (c .before .looked4 .given .1) in omega (arith, f .3, d .safe-now)
 
 run-slice-read-unpack : (t : ℕ) → Of run-lts.Need-slice-read-unpack t
-run-slice-read-unpack t c = let d = head t (c .before .before .before .before) in let f = asks (c .before .before .before .before .before .before .before .before .before .before .before .args .cs .now) (c .before .before .before .before .before .before .before .before .before .before .before .args .globals .now) (c .before .before .before .before .before .before .before .before .before .before .before .args .locals .now) (c .before .before .before .before .before .before .before .before .before .before .before .args .by) (c .before .before .before .before .before .before .before .before .before .before .before .args .levels) (c .before .before .before .before .before .before .before .before .before .before .before .args .s) (c .before .before .before .before .before .before .before .before .before .before .before .args .stack .now) (c .before .before .before .before .before .before .before .before .before .before .before .args .out .now) (c .before .before .before .before .before .loop .stack) (c .before .before .before .before .before .loop .out) (record { count = c .before .before .before .before .before .loop .count; tail = c .before .before .before .before .before .loop .tail; hints = c .before .before .before .before .before .loop .hints; mask = c .before .before .before .before .before .loop .mask; tokens = c .before .before .before .before .before .loop .tokens; length = c .before .before .before .before .before .loop .end }) (c .before .before .before .before .before .loop .i) (c .before .before .before .before .look .result) d (Call _ _) (c .before .before .looked4 .given .1) in omega (arith, f .3, d .safe-now)
+run-slice-read-unpack t c = let d = head t (c .before .before .before .before) in let f = asks _ _ _ _ _ _ _ _ _ _ _ _ _ d (Call _ _) (c .before .before .looked4 .given .1) in omega (arith, f .3, d .safe-now)
 
 run-unpack-requires : (t : ℕ) → Of run-lts.Need-unpack-requires t
 run-unpack-requires t c κs = tt
@@ -239,7 +239,7 @@ run-sub-run : (t : ℕ) → Of run-lts.Need-sub-run t
 run-sub-run t c = let n = there t (c .before .before .before .before .before) .1 .1 in omega arith
 
 run-run-requires : (t : ℕ) → Of run-lts.Need-run-requires t
-run-run-requires t c κs = let d = head t (c .before .before .before .before .before .before .before .before .before .before .before .before .before .before .before) in let n = there t (c .before .before .before .before .before) .1 .1 in let z = c .before .before .before .before .before .before .before .before .before .before .before .before .before .before .before .before .before .before .before .before .before .before .pre .0 in (omega arith, (setting-now (c .before .before .before .before .before .before .before .before .before .before .before .before .before .before .before .before .before .before .before .before .before .before .args .cs .now) (c .before .before .before .before .before .before .before .before .before .before .before .before .before .before .before .before .before .before .before .before .before .before .args .globals .now) (c .before .before .before .before .before .before .before .before .before .before .before .before .before .before .before .before .before .before .before .before .before .before .args .locals .now) (c .before .before .before .before .before .before .before .before .before .before .before .before .before .before .before .before .before .before .before .before .before .before .args .by) (c .before .before .before .before .before .before .before .before .before .before .before .before .before .before .before .before .before .before .before .before .before .before .args .levels) (c .before .before .before .before .before .before .before .before .before .before .before .before .before .before .before .before .before .before .before .before .before .before .args .s) (c .before .before .before .before .before .before .before .before .before .before .before .before .before .before .before .before .before .before .before .before .before .before .args .stack .now) (c .before .before .before .before .before .before .before .before .before .before .before .before .before .before .before .before .before .before .before .before .before .before .args .out .now) (c .before .before .before .before .before .before .before .before .before .before .before .before .before .before .before .before .loop .stack) (c .before .before .before .before .before .before .before .before .before .before .before .before .before .before .before .before .loop .out) (record { count = c .before .before .before .before .before .before .before .before .before .before .before .before .before .before .before .before .loop .count; tail = c .before .before .before .before .before .before .before .before .before .before .before .before .before .before .before .before .loop .tail; hints = c .before .before .before .before .before .before .before .before .before .before .before .before .before .before .before .before .loop .hints; mask = c .before .before .before .before .before .before .before .before .before .before .before .before .before .before .before .before .loop .mask; tokens = c .before .before .before .before .before .before .before .before .before .before .before .before .before .before .before .before .loop .tokens; length = c .before .before .before .before .before .before .before .before .before .before .before .before .before .before .before .before .loop .end }) (c .before .before .before .before .before .before .before .before .before .before .before .before .before .before .before .before .loop .i) (d .turn), inside-sound (c .before .before .before .before .before .before .before .before .before .before .before .before .before .before .before .before .before .before .before .before .before .before .args .cs .now) (c .before .before .before .before .before .before .before .before .before .before .before .before .before .before .before .before .before .before .before .before .before .before .args .globals .now) (c .before .before .before .before .before .before .before .before .before .before .before .before .before .before .before .before .before .before .before .before .before .before .args .locals .now) (c .before .before .before .before .before .before .before .before .before .before .before .before .before .before .before .before .before .before .before .before .before .before .args .by) (c .before .before .before .before .before .before .before .before .before .before .before .before .before .before .before .before .before .before .before .before .before .before .args .levels) (c .before .before .before .before .before .before .before .before .before .before .before .before .before .before .before .before .before .before .before .before .before .before .args .s) (c .before .before .before .before .before .before .before .before .before .before .before .before .before .before .before .before .before .before .before .before .before .before .args .stack .now) (c .before .before .before .before .before .before .before .before .before .before .before .before .before .before .before .before .before .before .before .before .before .before .args .out .now) (c .before .before .before .before .before .before .before .before .before .before .before .before .before .before .before .before .loop .stack) (c .before .before .before .before .before .before .before .before .before .before .before .before .before .before .before .before .loop .out) (record { count = c .before .before .before .before .before .before .before .before .before .before .before .before .before .before .before .before .loop .count; tail = c .before .before .before .before .before .before .before .before .before .before .before .before .before .before .before .before .loop .tail; hints = c .before .before .before .before .before .before .before .before .before .before .before .before .before .before .before .before .loop .hints; mask = c .before .before .before .before .before .before .before .before .before .before .before .before .before .before .before .before .loop .mask; tokens = c .before .before .before .before .before .before .before .before .before .before .before .before .before .before .before .before .loop .tokens; length = c .before .before .before .before .before .before .before .before .before .before .before .before .before .before .before .before .loop .end }) (c .before .before .before .before .before .before .before .before .before .before .before .before .before .before .before .before .loop .i) (d .turn) (c .before .before .before .before .before .before .before .before .before .before .before .before .before .looked4 .given .0 .0) (c .before .before .before .before .before .before .before .before .before .before .before .before .before .looked4 .given .0 .1 .0) (called t (c .before .before .before .before .before)) (c .before .before .before .before .before .target .given .0 .0) (c .before .before .before .before .before .target .given .0 .1 .0) (aims t (c .before .before .before .before .before)) (c .before .before .before .size-of .result) (sized t (c .before .before .before)) (d .sound)))
+run-run-requires t c κs = let d = head t (c .before .before .before .before .before .before .before .before .before .before .before .before .before .before .before) in let n = there t (c .before .before .before .before .before) .1 .1 in let z = c .before .before .before .before .before .before .before .before .before .before .before .before .before .before .before .before .before .before .before .before .before .before .pre .0 in (omega arith, (setting-now _ _ _ _ _ _ _ _ _ _ _ _ (d .turn), inside-sound _ _ _ _ _ _ _ _ _ _ _ _ (d .turn) (c .before .before .before .before .before .before .before .before .before .before .before .before .before .looked4 .given .0 .1 .0) (c .before .before .before .before .before .before .before .before .before .before .before .before .before .looked4 .given .0 .0) (called t (c .before .before .before .before .before)) (c .before .before .before .before .before .target .given .0 .0) (c .before .before .before .before .before .target .given .0 .1 .0) (aims t (c .before .before .before .before .before)) (c .before .before .before .size-of .result) (sized t (c .before .before .before)) (d .sound)))
 
 run-enum-told : (t : ℕ) → Of run-lts.Need-enum-told t
 run-enum-told t c = search needs
@@ -248,7 +248,7 @@ run-loop-less-4 : (t : ℕ) → Of run-lts.Need-loop-less-4 t
 run-loop-less-4 t c = let f = called t (c .before .before .before .before .before .before .before .before .before .before .before .before .before) in omega (arith, f .1 .begun .ahead, f .1 .begun .inside)
 
 run-loop-again-4 : (t : ℕ) → Of run-lts.Need-loop-again-4 t
-run-loop-again-4 t c = let d = head t (c .before .before .before .before .before .before .before .before .before .before .before .before .before .before .before .before .before .before .before .before .before .before .before) in (c .before .before .before .before .before .before .before .run .kept .1 .1 .1 .1 .1 .0 ∙ c .before .before .before .before .before .before .before .before .before .before .before .before .before .before .before .before .before .before .before .before .before .before .before .before .loop .inv .0, c .before .before .before .before .before .before .before .run .kept .1 .1 .1 .1 .1 .1 .0 ∙ c .before .before .before .before .before .before .before .before .before .before .before .before .before .before .before .before .before .before .before .before .before .before .before .before .loop .inv .1, arm-back (c .before .before .before .before .before .before .before .before .before .before .before .before .before .before .before .before .before .before .before .before .before .before .before .before .before .before .before .before .before .before .args .cs .now) (c .before .before .before .before .before .before .before .before .before .before .before .before .before .before .before .before .before .before .before .before .before .before .before .before .before .before .before .before .before .before .args .globals .now) (c .before .before .before .before .before .before .before .before .before .before .before .before .before .before .before .before .before .before .before .before .before .before .before .before .before .before .before .before .before .before .args .locals .now) (c .before .before .before .before .before .before .before .before .before .before .before .before .before .before .before .before .before .before .before .before .before .before .before .before .before .before .before .before .before .before .args .by) (c .before .before .before .before .before .before .before .before .before .before .before .before .before .before .before .before .before .before .before .before .before .before .before .before .before .before .before .before .before .before .args .levels) (c .before .before .before .before .before .before .before .before .before .before .before .before .before .before .before .before .before .before .before .before .before .before .before .before .before .before .before .before .before .before .args .s) (c .before .before .before .before .before .before .before .before .before .before .before .before .before .before .before .before .before .before .before .before .before .before .before .before .before .before .before .before .before .before .args .stack .now) (c .before .before .before .before .before .before .before .before .before .before .before .before .before .before .before .before .before .before .before .before .before .before .before .before .before .before .before .before .before .before .args .out .now) (c .before .before .before .before .before .before .before .before .before .before .before .before .before .before .before .before .before .before .before .before .before .before .before .before .loop .stack) (c .before .before .before .before .before .before .before .before .before .before .before .before .before .before .before .before .before .before .before .before .before .before .before .before .loop .out) (record { count = c .before .before .before .before .before .before .before .before .before .before .before .before .before .before .before .before .before .before .before .before .before .before .before .before .loop .count; tail = c .before .before .before .before .before .before .before .before .before .before .before .before .before .before .before .before .before .before .before .before .before .before .before .before .loop .tail; hints = c .before .before .before .before .before .before .before .before .before .before .before .before .before .before .before .before .before .before .before .before .before .before .before .before .loop .hints; mask = c .before .before .before .before .before .before .before .before .before .before .before .before .before .before .before .before .before .before .before .before .before .before .before .before .loop .mask; tokens = c .before .before .before .before .before .before .before .before .before .before .before .before .before .before .before .before .before .before .before .before .before .before .before .before .loop .tokens; length = c .before .before .before .before .before .before .before .before .before .before .before .before .before .before .before .before .before .before .before .before .before .before .before .before .loop .end }) (c .before .before .before .before .before .before .before .before .before .before .before .before .before .before .before .before .before .before .before .before .before .before .before .before .loop .i) (d .turn) (c .before .before .before .before .before .before .before .before .before .before .before .before .before .before .before .before .before .before .before .before .before .looked4 .given .0 .0) (c .before .before .before .before .before .before .before .before .before .before .before .before .before .before .before .before .before .before .before .before .before .looked4 .given .0 .1 .0) (called t (c .before .before .before .before .before .before .before .before .before .before .before .before .before)) (c .before .before .before .before .before .before .before .before .before .before .before .before .before .target .given .0 .0) (c .before .before .before .before .before .before .before .before .before .before .before .before .before .target .given .0 .1 .0) (aims t (c .before .before .before .before .before .before .before .before .before .before .before .before .before)) (c .before .before .before .before .before .before .before .before .before .before .before .size-of .result) (sized t (c .before .before .before .before .before .before .before .before .before .before .before)) (c .before .before .before .before .before .before .before .run .result) _ _ (subst (λ (l : List ℕ). RunsTo (take (c .before .before .before .before .before .before .before .before .before .before .before .before .before .target .given .0 .1 .0 - c .before .before .before .before .before .before .before .before .before .before .before .before .before .target .given .0 .0) (drop (c .before .before .before .before .before .before .before .before .before .before .before .before .before .target .given .0 .0) l)) (c .before .before .before .before .before .before .before .before .before .before .before .before .before .before .before .before .before .before .before .before .before .before .before .before .before .before .before .before .before .before .args .globals .now) (c .before .before .before .before .before .before .before .before .before .before .before .before .before .before .before .before .before .before .before .before .before .before .before .before .before .before .before .before .before .before .args .locals .now) (c .before .before .before .before .before .before .before .before .before .before .before .before .before .before .before .before .before .before .before .before .before .before .before .before .before .before .before .before .before .before .args .by) (record { count = c .before .before .before .before .before .before .before .before .before .before .before .before .before .before .before .before .before .before .before .before .before .before .before .before .loop .count - 1; tail = c .before .before .before .before .before .before .before .before .before .before .before .before .before .before .before .before .before .before .before .before .before .before .before .before .loop .tail - 1; hints = c .before .before .before .before .before .before .before .before .before .before .before .before .before .before .before .before .before .before .before .before .before .before .before .before .loop .hints; mask = c .before .before .before .before .before .before .before .before .before .before .before .before .before .before .before .before .before .before .before .before .before .before .before .before .loop .mask; tokens = c .before .before .before .before .before .before .before .before .before .before .before .before .before .before .before .before .before .before .before .before .before .before .before .before .loop .tokens + 1; length = c .before .before .before .before .before .before .before .before .before .before .before .before .before .before .before .before .before .before .before .before .before .before .before .before .loop .end - c .before .before .before .before .before .before .before .before .before .before .before .size-of .result }) (c .before .before .before .before .before .before .before .before .before .before .before .before .before .before .before .before .before .before .before .before .before .before .before .before .loop .stack) (c .before .before .before .before .before .before .before .before .before .before .before .before .before .before .before .before .before .before .before .before .before .before .before .before .loop .out) (c .before .before .before .before .before .before .before .before .before .before .before .before .before .before .before .before .before .before .before .before .before .before .before .before .before .before .before .before .before .before .args .levels - 1) (c .before .before .before .before .before .before .before .run .result) (c .before .before .before .before .before .before .before .run .last .1 .1 .1 .1 .1 .0) (c .before .before .before .before .before .before .before .run .last .1 .1 .1 .1 .1 .1 .0)) (c .before .before .before .before .before .before .before .before .before .before .before .before .before .before .before .before .before .choose .ensures) (c .before .before .before .before .before .before .before .run .ensures)) (c .before .enum-told .given .1))
+run-loop-again-4 t c = let d = head t (c .before .before .before .before .before .before .before .before .before .before .before .before .before .before .before .before .before .before .before .before .before .before .before) in (c .before .before .before .before .before .before .before .run .kept .1 .1 .1 .1 .1 .0 ∙ c .before .before .before .before .before .before .before .before .before .before .before .before .before .before .before .before .before .before .before .before .before .before .before .before .loop .inv .0, c .before .before .before .before .before .before .before .run .kept .1 .1 .1 .1 .1 .1 .0 ∙ c .before .before .before .before .before .before .before .before .before .before .before .before .before .before .before .before .before .before .before .before .before .before .before .before .loop .inv .1, arm-back _ _ _ _ _ _ _ _ _ _ _ _ (d .turn) (c .before .before .before .before .before .before .before .before .before .before .before .before .before .before .before .before .before .before .before .before .before .looked4 .given .0 .1 .0) (c .before .before .before .before .before .before .before .before .before .before .before .before .before .before .before .before .before .before .before .before .before .looked4 .given .0 .0) (called t (c .before .before .before .before .before .before .before .before .before .before .before .before .before)) (c .before .before .before .before .before .before .before .before .before .before .before .before .before .target .given .0 .0) (c .before .before .before .before .before .before .before .before .before .before .before .before .before .target .given .0 .1 .0) (aims t (c .before .before .before .before .before .before .before .before .before .before .before .before .before)) (c .before .before .before .before .before .before .before .before .before .before .before .size-of .result) (sized t (c .before .before .before .before .before .before .before .before .before .before .before)) (c .before .before .before .before .before .before .before .run .result) _ _ (subst (λ (l : List ℕ). RunsTo (take (c .before .before .before .before .before .before .before .before .before .before .before .before .before .target .given .0 .1 .0 - c .before .before .before .before .before .before .before .before .before .before .before .before .before .target .given .0 .0) (drop (c .before .before .before .before .before .before .before .before .before .before .before .before .before .target .given .0 .0) l)) (c .before .before .before .before .before .before .before .before .before .before .before .before .before .before .before .before .before .before .before .before .before .before .before .before .before .before .before .before .before .before .args .globals .now) (c .before .before .before .before .before .before .before .before .before .before .before .before .before .before .before .before .before .before .before .before .before .before .before .before .before .before .before .before .before .before .args .locals .now) (c .before .before .before .before .before .before .before .before .before .before .before .before .before .before .before .before .before .before .before .before .before .before .before .before .before .before .before .before .before .before .args .by) (record { count = c .before .before .before .before .before .before .before .before .before .before .before .before .before .before .before .before .before .before .before .before .before .before .before .before .loop .count - 1; tail = c .before .before .before .before .before .before .before .before .before .before .before .before .before .before .before .before .before .before .before .before .before .before .before .before .loop .tail - 1; hints = c .before .before .before .before .before .before .before .before .before .before .before .before .before .before .before .before .before .before .before .before .before .before .before .before .loop .hints; mask = c .before .before .before .before .before .before .before .before .before .before .before .before .before .before .before .before .before .before .before .before .before .before .before .before .loop .mask; tokens = c .before .before .before .before .before .before .before .before .before .before .before .before .before .before .before .before .before .before .before .before .before .before .before .before .loop .tokens + 1; length = c .before .before .before .before .before .before .before .before .before .before .before .before .before .before .before .before .before .before .before .before .before .before .before .before .loop .end - c .before .before .before .before .before .before .before .before .before .before .before .size-of .result }) (c .before .before .before .before .before .before .before .before .before .before .before .before .before .before .before .before .before .before .before .before .before .before .before .before .loop .stack) (c .before .before .before .before .before .before .before .before .before .before .before .before .before .before .before .before .before .before .before .before .before .before .before .before .loop .out) (c .before .before .before .before .before .before .before .before .before .before .before .before .before .before .before .before .before .before .before .before .before .before .before .before .before .before .before .before .before .before .args .levels - 1) (c .before .before .before .before .before .before .before .run .result) (c .before .before .before .before .before .before .before .run .last .1 .1 .1 .1 .1 .0) (c .before .before .before .before .before .before .before .run .last .1 .1 .1 .1 .1 .1 .0)) (c .before .before .before .before .before .before .before .before .before .before .before .before .before .before .before .before .before .choose .ensures) (c .before .before .before .before .before .before .before .run .ensures)) (c .before .enum-told .given .1))
 
 run-enum-told-2 : (t : ℕ) → Of run-lts.Need-enum-told-2 t
 run-enum-told-2 t c = search needs
@@ -261,7 +261,7 @@ run-same-length-2 t c = c .before .before .before .before .before .before .run .
 
 run-returns : (t : ℕ) → Of run-lts.Need-returns t
 unfolding RunsTo
-run-returns t c = let d = head t (c .before .before .before .before .before .before .before .before .before .before .before .before .before .before .before .before .before .before .before .before .before .before) in arm-passed (c .before .before .before .before .before .before .before .before .before .before .before .before .before .before .before .before .before .before .before .before .before .before .before .before .before .before .before .before .before .args .cs .now) (c .before .before .before .before .before .before .before .before .before .before .before .before .before .before .before .before .before .before .before .before .before .before .before .before .before .before .before .before .before .args .globals .now) (c .before .before .before .before .before .before .before .before .before .before .before .before .before .before .before .before .before .before .before .before .before .before .before .before .before .before .before .before .before .args .locals .now) (c .before .before .before .before .before .before .before .before .before .before .before .before .before .before .before .before .before .before .before .before .before .before .before .before .before .before .before .before .before .args .by) (c .before .before .before .before .before .before .before .before .before .before .before .before .before .before .before .before .before .before .before .before .before .before .before .before .before .before .before .before .before .args .levels) (c .before .before .before .before .before .before .before .before .before .before .before .before .before .before .before .before .before .before .before .before .before .before .before .before .before .before .before .before .before .args .s) (c .before .before .before .before .before .before .before .before .before .before .before .before .before .before .before .before .before .before .before .before .before .before .before .before .before .before .before .before .before .args .stack .now) (c .before .before .before .before .before .before .before .before .before .before .before .before .before .before .before .before .before .before .before .before .before .before .before .before .before .before .before .before .before .args .out .now) (c .before .before .before .before .before .before .before .before .before .before .before .before .before .before .before .before .before .before .before .before .before .before .before .loop .stack) (c .before .before .before .before .before .before .before .before .before .before .before .before .before .before .before .before .before .before .before .before .before .before .before .loop .out) (record { count = c .before .before .before .before .before .before .before .before .before .before .before .before .before .before .before .before .before .before .before .before .before .before .before .loop .count; tail = c .before .before .before .before .before .before .before .before .before .before .before .before .before .before .before .before .before .before .before .before .before .before .before .loop .tail; hints = c .before .before .before .before .before .before .before .before .before .before .before .before .before .before .before .before .before .before .before .before .before .before .before .loop .hints; mask = c .before .before .before .before .before .before .before .before .before .before .before .before .before .before .before .before .before .before .before .before .before .before .before .loop .mask; tokens = c .before .before .before .before .before .before .before .before .before .before .before .before .before .before .before .before .before .before .before .before .before .before .before .loop .tokens; length = c .before .before .before .before .before .before .before .before .before .before .before .before .before .before .before .before .before .before .before .before .before .before .before .loop .end }) (c .before .before .before .before .before .before .before .before .before .before .before .before .before .before .before .before .before .before .before .before .before .before .before .loop .i) (d .turn) (c .before .before .before .before .before .before .before .before .before .before .before .before .before .before .before .before .before .before .before .before .looked4 .given .0 .0) (c .before .before .before .before .before .before .before .before .before .before .before .before .before .before .before .before .before .before .before .before .looked4 .given .0 .1 .0) (called t (c .before .before .before .before .before .before .before .before .before .before .before .before)) (c .before .before .before .before .before .before .before .before .before .before .before .before .target .given .0 .0) (c .before .before .before .before .before .before .before .before .before .before .before .before .target .given .0 .1 .0) (aims t (c .before .before .before .before .before .before .before .before .before .before .before .before)) (c .before .before .before .before .before .before .before .before .before .before .size-of .result) (sized t (c .before .before .before .before .before .before .before .before .before .before)) (c .before .before .before .before .before .before .run .result) _ _ (subst (λ (l : List ℕ). RunsTo (take (c .before .before .before .before .before .before .before .before .before .before .before .before .target .given .0 .1 .0 - c .before .before .before .before .before .before .before .before .before .before .before .before .target .given .0 .0) (drop (c .before .before .before .before .before .before .before .before .before .before .before .before .target .given .0 .0) l)) (c .before .before .before .before .before .before .before .before .before .before .before .before .before .before .before .before .before .before .before .before .before .before .before .before .before .before .before .before .before .args .globals .now) (c .before .before .before .before .before .before .before .before .before .before .before .before .before .before .before .before .before .before .before .before .before .before .before .before .before .before .before .before .before .args .locals .now) (c .before .before .before .before .before .before .before .before .before .before .before .before .before .before .before .before .before .before .before .before .before .before .before .before .before .before .before .before .before .args .by) (record { count = c .before .before .before .before .before .before .before .before .before .before .before .before .before .before .before .before .before .before .before .before .before .before .before .loop .count - 1; tail = c .before .before .before .before .before .before .before .before .before .before .before .before .before .before .before .before .before .before .before .before .before .before .before .loop .tail - 1; hints = c .before .before .before .before .before .before .before .before .before .before .before .before .before .before .before .before .before .before .before .before .before .before .before .loop .hints; mask = c .before .before .before .before .before .before .before .before .before .before .before .before .before .before .before .before .before .before .before .before .before .before .before .loop .mask; tokens = c .before .before .before .before .before .before .before .before .before .before .before .before .before .before .before .before .before .before .before .before .before .before .before .loop .tokens + 1; length = c .before .before .before .before .before .before .before .before .before .before .before .before .before .before .before .before .before .before .before .before .before .before .before .loop .end - c .before .before .before .before .before .before .before .before .before .before .size-of .result }) (c .before .before .before .before .before .before .before .before .before .before .before .before .before .before .before .before .before .before .before .before .before .before .before .loop .stack) (c .before .before .before .before .before .before .before .before .before .before .before .before .before .before .before .before .before .before .before .before .before .before .before .loop .out) (c .before .before .before .before .before .before .before .before .before .before .before .before .before .before .before .before .before .before .before .before .before .before .before .before .before .before .before .before .before .args .levels - 1) (c .before .before .before .before .before .before .run .result) (c .before .before .before .before .before .before .run .last .1 .1 .1 .1 .1 .0) (c .before .before .before .before .before .before .run .last .1 .1 .1 .1 .1 .1 .0)) (c .before .before .before .before .before .before .before .before .before .before .before .before .before .before .before .before .choose .ensures) (c .before .before .before .before .before .before .run .ensures)) (ended-goes _ (c .enum-told2 .given .1))
+run-returns t c = let d = head t (c .before .before .before .before .before .before .before .before .before .before .before .before .before .before .before .before .before .before .before .before .before .before) in arm-passed _ _ _ _ _ _ _ _ _ _ _ _ (d .turn) (c .before .before .before .before .before .before .before .before .before .before .before .before .before .before .before .before .before .before .before .before .looked4 .given .0 .1 .0) (c .before .before .before .before .before .before .before .before .before .before .before .before .before .before .before .before .before .before .before .before .looked4 .given .0 .0) (called t (c .before .before .before .before .before .before .before .before .before .before .before .before)) (c .before .before .before .before .before .before .before .before .before .before .before .before .target .given .0 .0) (c .before .before .before .before .before .before .before .before .before .before .before .before .target .given .0 .1 .0) (aims t (c .before .before .before .before .before .before .before .before .before .before .before .before)) (c .before .before .before .before .before .before .before .before .before .before .size-of .result) (sized t (c .before .before .before .before .before .before .before .before .before .before)) (c .before .before .before .before .before .before .run .result) _ _ (subst (λ (l : List ℕ). RunsTo (take (c .before .before .before .before .before .before .before .before .before .before .before .before .target .given .0 .1 .0 - c .before .before .before .before .before .before .before .before .before .before .before .before .target .given .0 .0) (drop (c .before .before .before .before .before .before .before .before .before .before .before .before .target .given .0 .0) l)) (c .before .before .before .before .before .before .before .before .before .before .before .before .before .before .before .before .before .before .before .before .before .before .before .before .before .before .before .before .before .args .globals .now) (c .before .before .before .before .before .before .before .before .before .before .before .before .before .before .before .before .before .before .before .before .before .before .before .before .before .before .before .before .before .args .locals .now) (c .before .before .before .before .before .before .before .before .before .before .before .before .before .before .before .before .before .before .before .before .before .before .before .before .before .before .before .before .before .args .by) (record { count = c .before .before .before .before .before .before .before .before .before .before .before .before .before .before .before .before .before .before .before .before .before .before .before .loop .count - 1; tail = c .before .before .before .before .before .before .before .before .before .before .before .before .before .before .before .before .before .before .before .before .before .before .before .loop .tail - 1; hints = c .before .before .before .before .before .before .before .before .before .before .before .before .before .before .before .before .before .before .before .before .before .before .before .loop .hints; mask = c .before .before .before .before .before .before .before .before .before .before .before .before .before .before .before .before .before .before .before .before .before .before .before .loop .mask; tokens = c .before .before .before .before .before .before .before .before .before .before .before .before .before .before .before .before .before .before .before .before .before .before .before .loop .tokens + 1; length = c .before .before .before .before .before .before .before .before .before .before .before .before .before .before .before .before .before .before .before .before .before .before .before .loop .end - c .before .before .before .before .before .before .before .before .before .before .size-of .result }) (c .before .before .before .before .before .before .before .before .before .before .before .before .before .before .before .before .before .before .before .before .before .before .before .loop .stack) (c .before .before .before .before .before .before .before .before .before .before .before .before .before .before .before .before .before .before .before .before .before .before .before .loop .out) (c .before .before .before .before .before .before .before .before .before .before .before .before .before .before .before .before .before .before .before .before .before .before .before .before .before .before .before .before .before .args .levels - 1) (c .before .before .before .before .before .before .run .result) (c .before .before .before .before .before .before .run .last .1 .1 .1 .1 .1 .0) (c .before .before .before .before .before .before .run .last .1 .1 .1 .1 .1 .1 .0)) (c .before .before .before .before .before .before .before .before .before .before .before .before .before .before .before .before .choose .ensures) (c .before .before .before .before .before .before .run .ensures)) (ended-goes _ (c .enum-told2 .given .1))
 
 run-enum-told-3 : (t : ℕ) → Of run-lts.Need-enum-told-3 t
 run-enum-told-3 t c = search needs
@@ -274,7 +274,7 @@ run-same-length-4 t c = c .before .before .before .before .before .before .run .
 
 run-returns-2 : (t : ℕ) → Of run-lts.Need-returns-2 t
 unfolding RunsTo
-run-returns-2 t c = let d = head t (c .before .before .before .before .before .before .before .before .before .before .before .before .before .before .before .before .before .before .before .before .before .before) in arm-passed (c .before .before .before .before .before .before .before .before .before .before .before .before .before .before .before .before .before .before .before .before .before .before .before .before .before .before .before .before .before .args .cs .now) (c .before .before .before .before .before .before .before .before .before .before .before .before .before .before .before .before .before .before .before .before .before .before .before .before .before .before .before .before .before .args .globals .now) (c .before .before .before .before .before .before .before .before .before .before .before .before .before .before .before .before .before .before .before .before .before .before .before .before .before .before .before .before .before .args .locals .now) (c .before .before .before .before .before .before .before .before .before .before .before .before .before .before .before .before .before .before .before .before .before .before .before .before .before .before .before .before .before .args .by) (c .before .before .before .before .before .before .before .before .before .before .before .before .before .before .before .before .before .before .before .before .before .before .before .before .before .before .before .before .before .args .levels) (c .before .before .before .before .before .before .before .before .before .before .before .before .before .before .before .before .before .before .before .before .before .before .before .before .before .before .before .before .before .args .s) (c .before .before .before .before .before .before .before .before .before .before .before .before .before .before .before .before .before .before .before .before .before .before .before .before .before .before .before .before .before .args .stack .now) (c .before .before .before .before .before .before .before .before .before .before .before .before .before .before .before .before .before .before .before .before .before .before .before .before .before .before .before .before .before .args .out .now) (c .before .before .before .before .before .before .before .before .before .before .before .before .before .before .before .before .before .before .before .before .before .before .before .loop .stack) (c .before .before .before .before .before .before .before .before .before .before .before .before .before .before .before .before .before .before .before .before .before .before .before .loop .out) (record { count = c .before .before .before .before .before .before .before .before .before .before .before .before .before .before .before .before .before .before .before .before .before .before .before .loop .count; tail = c .before .before .before .before .before .before .before .before .before .before .before .before .before .before .before .before .before .before .before .before .before .before .before .loop .tail; hints = c .before .before .before .before .before .before .before .before .before .before .before .before .before .before .before .before .before .before .before .before .before .before .before .loop .hints; mask = c .before .before .before .before .before .before .before .before .before .before .before .before .before .before .before .before .before .before .before .before .before .before .before .loop .mask; tokens = c .before .before .before .before .before .before .before .before .before .before .before .before .before .before .before .before .before .before .before .before .before .before .before .loop .tokens; length = c .before .before .before .before .before .before .before .before .before .before .before .before .before .before .before .before .before .before .before .before .before .before .before .loop .end }) (c .before .before .before .before .before .before .before .before .before .before .before .before .before .before .before .before .before .before .before .before .before .before .before .loop .i) (d .turn) (c .before .before .before .before .before .before .before .before .before .before .before .before .before .before .before .before .before .before .before .before .looked4 .given .0 .0) (c .before .before .before .before .before .before .before .before .before .before .before .before .before .before .before .before .before .before .before .before .looked4 .given .0 .1 .0) (called t (c .before .before .before .before .before .before .before .before .before .before .before .before)) (c .before .before .before .before .before .before .before .before .before .before .before .before .target .given .0 .0) (c .before .before .before .before .before .before .before .before .before .before .before .before .target .given .0 .1 .0) (aims t (c .before .before .before .before .before .before .before .before .before .before .before .before)) (c .before .before .before .before .before .before .before .before .before .before .size-of .result) (sized t (c .before .before .before .before .before .before .before .before .before .before)) (c .before .before .before .before .before .before .run .result) _ _ (subst (λ (l : List ℕ). RunsTo (take (c .before .before .before .before .before .before .before .before .before .before .before .before .target .given .0 .1 .0 - c .before .before .before .before .before .before .before .before .before .before .before .before .target .given .0 .0) (drop (c .before .before .before .before .before .before .before .before .before .before .before .before .target .given .0 .0) l)) (c .before .before .before .before .before .before .before .before .before .before .before .before .before .before .before .before .before .before .before .before .before .before .before .before .before .before .before .before .before .args .globals .now) (c .before .before .before .before .before .before .before .before .before .before .before .before .before .before .before .before .before .before .before .before .before .before .before .before .before .before .before .before .before .args .locals .now) (c .before .before .before .before .before .before .before .before .before .before .before .before .before .before .before .before .before .before .before .before .before .before .before .before .before .before .before .before .before .args .by) (record { count = c .before .before .before .before .before .before .before .before .before .before .before .before .before .before .before .before .before .before .before .before .before .before .before .loop .count - 1; tail = c .before .before .before .before .before .before .before .before .before .before .before .before .before .before .before .before .before .before .before .before .before .before .before .loop .tail - 1; hints = c .before .before .before .before .before .before .before .before .before .before .before .before .before .before .before .before .before .before .before .before .before .before .before .loop .hints; mask = c .before .before .before .before .before .before .before .before .before .before .before .before .before .before .before .before .before .before .before .before .before .before .before .loop .mask; tokens = c .before .before .before .before .before .before .before .before .before .before .before .before .before .before .before .before .before .before .before .before .before .before .before .loop .tokens + 1; length = c .before .before .before .before .before .before .before .before .before .before .before .before .before .before .before .before .before .before .before .before .before .before .before .loop .end - c .before .before .before .before .before .before .before .before .before .before .size-of .result }) (c .before .before .before .before .before .before .before .before .before .before .before .before .before .before .before .before .before .before .before .before .before .before .before .loop .stack) (c .before .before .before .before .before .before .before .before .before .before .before .before .before .before .before .before .before .before .before .before .before .before .before .loop .out) (c .before .before .before .before .before .before .before .before .before .before .before .before .before .before .before .before .before .before .before .before .before .before .before .before .before .before .before .before .before .args .levels - 1) (c .before .before .before .before .before .before .run .result) (c .before .before .before .before .before .before .run .last .1 .1 .1 .1 .1 .0) (c .before .before .before .before .before .before .run .last .1 .1 .1 .1 .1 .1 .0)) (c .before .before .before .before .before .before .before .before .before .before .before .before .before .before .before .before .choose .ensures) (c .before .before .before .before .before .before .run .ensures)) (refused-goes _ _ (c .enum-told3 .given .1))
+run-returns-2 t c = let d = head t (c .before .before .before .before .before .before .before .before .before .before .before .before .before .before .before .before .before .before .before .before .before .before) in arm-passed _ _ _ _ _ _ _ _ _ _ _ _ (d .turn) (c .before .before .before .before .before .before .before .before .before .before .before .before .before .before .before .before .before .before .before .before .looked4 .given .0 .1 .0) (c .before .before .before .before .before .before .before .before .before .before .before .before .before .before .before .before .before .before .before .before .looked4 .given .0 .0) (called t (c .before .before .before .before .before .before .before .before .before .before .before .before)) (c .before .before .before .before .before .before .before .before .before .before .before .before .target .given .0 .0) (c .before .before .before .before .before .before .before .before .before .before .before .before .target .given .0 .1 .0) (aims t (c .before .before .before .before .before .before .before .before .before .before .before .before)) (c .before .before .before .before .before .before .before .before .before .before .size-of .result) (sized t (c .before .before .before .before .before .before .before .before .before .before)) (c .before .before .before .before .before .before .run .result) _ _ (subst (λ (l : List ℕ). RunsTo (take (c .before .before .before .before .before .before .before .before .before .before .before .before .target .given .0 .1 .0 - c .before .before .before .before .before .before .before .before .before .before .before .before .target .given .0 .0) (drop (c .before .before .before .before .before .before .before .before .before .before .before .before .target .given .0 .0) l)) (c .before .before .before .before .before .before .before .before .before .before .before .before .before .before .before .before .before .before .before .before .before .before .before .before .before .before .before .before .before .args .globals .now) (c .before .before .before .before .before .before .before .before .before .before .before .before .before .before .before .before .before .before .before .before .before .before .before .before .before .before .before .before .before .args .locals .now) (c .before .before .before .before .before .before .before .before .before .before .before .before .before .before .before .before .before .before .before .before .before .before .before .before .before .before .before .before .before .args .by) (record { count = c .before .before .before .before .before .before .before .before .before .before .before .before .before .before .before .before .before .before .before .before .before .before .before .loop .count - 1; tail = c .before .before .before .before .before .before .before .before .before .before .before .before .before .before .before .before .before .before .before .before .before .before .before .loop .tail - 1; hints = c .before .before .before .before .before .before .before .before .before .before .before .before .before .before .before .before .before .before .before .before .before .before .before .loop .hints; mask = c .before .before .before .before .before .before .before .before .before .before .before .before .before .before .before .before .before .before .before .before .before .before .before .loop .mask; tokens = c .before .before .before .before .before .before .before .before .before .before .before .before .before .before .before .before .before .before .before .before .before .before .before .loop .tokens + 1; length = c .before .before .before .before .before .before .before .before .before .before .before .before .before .before .before .before .before .before .before .before .before .before .before .loop .end - c .before .before .before .before .before .before .before .before .before .before .size-of .result }) (c .before .before .before .before .before .before .before .before .before .before .before .before .before .before .before .before .before .before .before .before .before .before .before .loop .stack) (c .before .before .before .before .before .before .before .before .before .before .before .before .before .before .before .before .before .before .before .before .before .before .before .loop .out) (c .before .before .before .before .before .before .before .before .before .before .before .before .before .before .before .before .before .before .before .before .before .before .before .before .before .before .before .before .before .args .levels - 1) (c .before .before .before .before .before .before .run .result) (c .before .before .before .before .before .before .run .last .1 .1 .1 .1 .1 .0) (c .before .before .before .before .before .before .run .last .1 .1 .1 .1 .1 .1 .0)) (c .before .before .before .before .before .before .before .before .before .before .before .before .before .before .before .before .choose .ensures) (c .before .before .before .before .before .before .run .ensures)) (refused-goes _ _ (c .enum-told3 .given .1))
 
 run-enum-known-target-2 : (t : ℕ) → Of run-lts.Need-enum-known-target-2 t
 run-enum-known-target-2 t c = search needs
@@ -287,13 +287,13 @@ run-same-length-6 t c = c .before .before .before .before .before .before .befor
 
 run-returns-3 : (t : ℕ) → Of run-lts.Need-returns-3 t
 unfolding RunsTo
-run-returns-3 t c = let d = head t (c .before .before .before .before .before .before .before .before .before .before .before) in let f = asks (c .before .before .before .before .before .before .before .before .before .before .before .before .before .before .before .before .before .before .args .cs .now) (c .before .before .before .before .before .before .before .before .before .before .before .before .before .before .before .before .before .before .args .globals .now) (c .before .before .before .before .before .before .before .before .before .before .before .before .before .before .before .before .before .before .args .locals .now) (c .before .before .before .before .before .before .before .before .before .before .before .before .before .before .before .before .before .before .args .by) (c .before .before .before .before .before .before .before .before .before .before .before .before .before .before .before .before .before .before .args .levels) (c .before .before .before .before .before .before .before .before .before .before .before .before .before .before .before .before .before .before .args .s) (c .before .before .before .before .before .before .before .before .before .before .before .before .before .before .before .before .before .before .args .stack .now) (c .before .before .before .before .before .before .before .before .before .before .before .before .before .before .before .before .before .before .args .out .now) (c .before .before .before .before .before .before .before .before .before .before .before .before .loop .stack) (c .before .before .before .before .before .before .before .before .before .before .before .before .loop .out) (record { count = c .before .before .before .before .before .before .before .before .before .before .before .before .loop .count; tail = c .before .before .before .before .before .before .before .before .before .before .before .before .loop .tail; hints = c .before .before .before .before .before .before .before .before .before .before .before .before .loop .hints; mask = c .before .before .before .before .before .before .before .before .before .before .before .before .loop .mask; tokens = c .before .before .before .before .before .before .before .before .before .before .before .before .loop .tokens; length = c .before .before .before .before .before .before .before .before .before .before .before .before .loop .end }) (c .before .before .before .before .before .before .before .before .before .before .before .before .loop .i) (c .before .before .before .before .before .before .before .before .before .before .before .look .result) d (Call _ _) (c .before .before .before .before .before .before .before .before .before .looked4 .given .1) in arm-no (c .before .before .before .before .before .before .before .before .before .before .before .before .before .before .before .before .before .before .args .cs .now) (c .before .before .before .before .before .before .before .before .before .before .before .before .before .before .before .before .before .before .args .globals .now) (c .before .before .before .before .before .before .before .before .before .before .before .before .before .before .before .before .before .before .args .locals .now) (c .before .before .before .before .before .before .before .before .before .before .before .before .before .before .before .before .before .before .args .by) (c .before .before .before .before .before .before .before .before .before .before .before .before .before .before .before .before .before .before .args .levels) (c .before .before .before .before .before .before .before .before .before .before .before .before .before .before .before .before .before .before .args .s) (c .before .before .before .before .before .before .before .before .before .before .before .before .before .before .before .before .before .before .args .stack .now) (c .before .before .before .before .before .before .before .before .before .before .before .before .before .before .before .before .before .before .args .out .now) (c .before .before .before .before .before .before .before .before .before .before .before .before .loop .stack) (c .before .before .before .before .before .before .before .before .before .before .before .before .loop .out) (record { count = c .before .before .before .before .before .before .before .before .before .before .before .before .loop .count; tail = c .before .before .before .before .before .before .before .before .before .before .before .before .loop .tail; hints = c .before .before .before .before .before .before .before .before .before .before .before .before .loop .hints; mask = c .before .before .before .before .before .before .before .before .before .before .before .before .loop .mask; tokens = c .before .before .before .before .before .before .before .before .before .before .before .before .loop .tokens; length = c .before .before .before .before .before .before .before .before .before .before .before .before .loop .end }) (c .before .before .before .before .before .before .before .before .before .before .before .before .loop .i) (d .turn) (c .before .before .before .before .before .before .before .before .before .looked4 .given .0 .0) (c .before .before .before .before .before .before .before .before .before .looked4 .given .0 .1 .0) f (c .before .target2 .given .0 .0) (aims-at _ _ _ _ _ _ _ _ _ _ _ (c .before .before .before .before .before .choose .ensures) (c .before .before .before .before .choose-count .ensures) (c .before .before .before .before .before .before .unpack .ensures) (c .before .target2 .given .1) (c .before .before .before .aim .ensures .0))
+run-returns-3 t c = let d = head t (c .before .before .before .before .before .before .before .before .before .before .before) in let f = asks _ _ _ _ _ _ _ _ _ _ _ _ _ d (Call _ _) (c .before .before .before .before .before .before .before .before .before .looked4 .given .1) in arm-no _ _ _ _ _ _ _ _ _ _ _ _ (d .turn) (c .before .before .before .before .before .before .before .before .before .looked4 .given .0 .1 .0) (c .before .before .before .before .before .before .before .before .before .looked4 .given .0 .0) f (c .before .target2 .given .0 .0) (aims-at _ _ _ _ _ _ _ _ _ _ _ (c .before .before .before .before .before .choose .ensures) (c .before .before .before .before .choose-count .ensures) (c .before .before .before .before .before .before .unpack .ensures) (c .before .target2 .given .1) (c .before .before .before .aim .ensures .0))
 
 run-enum-told-4 : (t : ℕ) → Of run-lts.Need-enum-told-4 t
 run-enum-told-4 t c = search needs
 
 run-add-t82 : (t : ℕ) → Of run-lts.Need-add-t82 t
-run-add-t82 t c = let d = head t (c .before .before) in let f = asks (c .before .before .before .before .before .before .before .before .before .args .cs .now) (c .before .before .before .before .before .before .before .before .before .args .globals .now) (c .before .before .before .before .before .before .before .before .before .args .locals .now) (c .before .before .before .before .before .before .before .before .before .args .by) (c .before .before .before .before .before .before .before .before .before .args .levels) (c .before .before .before .before .before .before .before .before .before .args .s) (c .before .before .before .before .before .before .before .before .before .args .stack .now) (c .before .before .before .before .before .before .before .before .before .args .out .now) (c .before .before .before .loop .stack) (c .before .before .before .loop .out) (record { count = c .before .before .before .loop .count; tail = c .before .before .before .loop .tail; hints = c .before .before .before .loop .hints; mask = c .before .before .before .loop .mask; tokens = c .before .before .before .loop .tokens; length = c .before .before .before .loop .end }) (c .before .before .before .loop .i) (c .before .before .look .result) d Return (c .enum-told4 .given .1) in omega (arith, f .2 .begun)
+run-add-t82 t c = let d = head t (c .before .before) in let f = asks _ _ _ _ _ _ _ _ _ _ _ _ _ d Return (c .enum-told4 .given .1) in omega (arith, f .2 .begun)
 
 run-same-length-7 : (t : ℕ) → Of run-lts.Need-same-length-7 t
 run-same-length-7 t c = c .before .before .before .loop .inv .0
@@ -303,16 +303,16 @@ run-same-length-8 t c = c .before .before .before .loop .inv .1
 
 run-returns-4 : (t : ℕ) → Of run-lts.Need-returns-4 t
 unfolding RunsTo
-run-returns-4 t c = let d = head t (c .before .before) in let f = asks (c .before .before .before .before .before .before .before .before .before .args .cs .now) (c .before .before .before .before .before .before .before .before .before .args .globals .now) (c .before .before .before .before .before .before .before .before .before .args .locals .now) (c .before .before .before .before .before .before .before .before .before .args .by) (c .before .before .before .before .before .before .before .before .before .args .levels) (c .before .before .before .before .before .before .before .before .before .args .s) (c .before .before .before .before .before .before .before .before .before .args .stack .now) (c .before .before .before .before .before .before .before .before .before .args .out .now) (c .before .before .before .loop .stack) (c .before .before .before .loop .out) (record { count = c .before .before .before .loop .count; tail = c .before .before .before .loop .tail; hints = c .before .before .before .loop .hints; mask = c .before .before .before .loop .mask; tokens = c .before .before .before .loop .tokens; length = c .before .before .before .loop .end }) (c .before .before .before .loop .i) (c .before .before .look .result) d Return (c .enum-told4 .given .1) in arm-return (c .before .before .before .before .before .before .before .before .before .args .cs .now) (c .before .before .before .before .before .before .before .before .before .args .globals .now) (c .before .before .before .before .before .before .before .before .before .args .locals .now) (c .before .before .before .before .before .before .before .before .before .args .by) (c .before .before .before .before .before .before .before .before .before .args .levels) (c .before .before .before .before .before .before .before .before .before .args .s) (c .before .before .before .before .before .before .before .before .before .args .stack .now) (c .before .before .before .before .before .before .before .before .before .args .out .now) (c .before .before .before .loop .stack) (c .before .before .before .loop .out) (record { count = c .before .before .before .loop .count; tail = c .before .before .before .loop .tail; hints = c .before .before .before .loop .hints; mask = c .before .before .before .loop .mask; tokens = c .before .before .before .loop .tokens; length = c .before .before .before .loop .end }) (c .before .before .before .loop .i) (d .turn) f
+run-returns-4 t c = let d = head t (c .before .before) in let f = asks _ _ _ _ _ _ _ _ _ _ _ _ _ d Return (c .enum-told4 .given .1) in arm-return _ _ _ _ _ _ _ _ _ _ _ _ (d .turn) f
 
 run-enum-known-looked-5 : (t : ℕ) → Of run-lts.Need-enum-known-looked-5 t
 run-enum-known-looked-5 t c = search needs
 
 run-put-operator-requires-3 : (t : ℕ) → Of run-lts.Need-put-operator-requires-3 t
-run-put-operator-requires-3 t c κs = let d = head t (c .before .before .before .before) in let f = asks (c .before .before .before .before .before .before .before .before .before .before .before .args .cs .now) (c .before .before .before .before .before .before .before .before .before .before .before .args .globals .now) (c .before .before .before .before .before .before .before .before .before .before .before .args .locals .now) (c .before .before .before .before .before .before .before .before .before .before .before .args .by) (c .before .before .before .before .before .before .before .before .before .before .before .args .levels) (c .before .before .before .before .before .before .before .before .before .before .before .args .s) (c .before .before .before .before .before .before .before .before .before .before .before .args .stack .now) (c .before .before .before .before .before .before .before .before .before .before .before .args .out .now) (c .before .before .before .before .before .loop .stack) (c .before .before .before .before .before .loop .out) (record { count = c .before .before .before .before .before .loop .count; tail = c .before .before .before .before .before .loop .tail; hints = c .before .before .before .before .before .loop .hints; mask = c .before .before .before .before .before .loop .mask; tokens = c .before .before .before .before .before .loop .tokens; length = c .before .before .before .before .before .loop .end }) (c .before .before .before .before .before .loop .i) (c .before .before .before .before .look .result) d (End _) (c .before .before .looked5 .given .1) in omega (arith, d .safe-now, f .1 .begun)
+run-put-operator-requires-3 t c κs = let d = head t (c .before .before .before .before) in let f = asks _ _ _ _ _ _ _ _ _ _ _ _ _ d (End _) (c .before .before .looked5 .given .1) in omega (arith, d .safe-now, f .1 .begun)
 
 run-add-t86 : (t : ℕ) → Of run-lts.Need-add-t86 t
-run-add-t86 t c = let d = head t (c .before .before .before .before .before .before .before) in let f = asks (c .before .before .before .before .before .before .before .before .before .before .before .before .before .before .args .cs .now) (c .before .before .before .before .before .before .before .before .before .before .before .before .before .before .args .globals .now) (c .before .before .before .before .before .before .before .before .before .before .before .before .before .before .args .locals .now) (c .before .before .before .before .before .before .before .before .before .before .before .before .before .before .args .by) (c .before .before .before .before .before .before .before .before .before .before .before .before .before .before .args .levels) (c .before .before .before .before .before .before .before .before .before .before .before .before .before .before .args .s) (c .before .before .before .before .before .before .before .before .before .before .before .before .before .before .args .stack .now) (c .before .before .before .before .before .before .before .before .before .before .before .before .before .before .args .out .now) (c .before .before .before .before .before .before .before .before .loop .stack) (c .before .before .before .before .before .before .before .before .loop .out) (record { count = c .before .before .before .before .before .before .before .before .loop .count; tail = c .before .before .before .before .before .before .before .before .loop .tail; hints = c .before .before .before .before .before .before .before .before .loop .hints; mask = c .before .before .before .before .before .before .before .before .loop .mask; tokens = c .before .before .before .before .before .before .before .before .loop .tokens; length = c .before .before .before .before .before .before .before .before .loop .end }) (c .before .before .before .before .before .before .before .before .loop .i) (c .before .before .before .before .before .before .before .look .result) d (End _) (c .before .before .before .before .before .looked5 .given .1) in omega (arith, f .1 .begun)
+run-add-t86 t c = let d = head t (c .before .before .before .before .before .before .before) in let f = asks _ _ _ _ _ _ _ _ _ _ _ _ _ d (End _) (c .before .before .before .before .before .looked5 .given .1) in omega (arith, f .1 .begun)
 
 run-same-length-9 : (t : ℕ) → Of run-lts.Need-same-length-9 t
 run-same-length-9 t c = c .before .before .before .before .before .before .before .before .loop .inv .0
@@ -322,7 +322,7 @@ run-same-length-10 t c = c .before .before .put-operator3 .kept .0 ∙ c .before
 
 run-returns-5 : (t : ℕ) → Of run-lts.Need-returns-5 t
 unfolding RunsTo
-run-returns-5 t c = let d = head t (c .before .before .before .before .before .before .before) in let f = asks (c .before .before .before .before .before .before .before .before .before .before .before .before .before .before .args .cs .now) (c .before .before .before .before .before .before .before .before .before .before .before .before .before .before .args .globals .now) (c .before .before .before .before .before .before .before .before .before .before .before .before .before .before .args .locals .now) (c .before .before .before .before .before .before .before .before .before .before .before .before .before .before .args .by) (c .before .before .before .before .before .before .before .before .before .before .before .before .before .before .args .levels) (c .before .before .before .before .before .before .before .before .before .before .before .before .before .before .args .s) (c .before .before .before .before .before .before .before .before .before .before .before .before .before .before .args .stack .now) (c .before .before .before .before .before .before .before .before .before .before .before .before .before .before .args .out .now) (c .before .before .before .before .before .before .before .before .loop .stack) (c .before .before .before .before .before .before .before .before .loop .out) (record { count = c .before .before .before .before .before .before .before .before .loop .count; tail = c .before .before .before .before .before .before .before .before .loop .tail; hints = c .before .before .before .before .before .before .before .before .loop .hints; mask = c .before .before .before .before .before .before .before .before .loop .mask; tokens = c .before .before .before .before .before .before .before .before .loop .tokens; length = c .before .before .before .before .before .before .before .before .loop .end }) (c .before .before .before .before .before .before .before .before .loop .i) (c .before .before .before .before .before .before .before .look .result) d (End _) (c .before .before .before .before .before .looked5 .given .1) in arm-end (c .before .before .before .before .before .before .before .before .before .before .before .before .before .before .args .cs .now) (c .before .before .before .before .before .before .before .before .before .before .before .before .before .before .args .globals .now) (c .before .before .before .before .before .before .before .before .before .before .before .before .before .before .args .locals .now) (c .before .before .before .before .before .before .before .before .before .before .before .before .before .before .args .by) (c .before .before .before .before .before .before .before .before .before .before .before .before .before .before .args .levels) (c .before .before .before .before .before .before .before .before .before .before .before .before .before .before .args .s) (c .before .before .before .before .before .before .before .before .before .before .before .before .before .before .args .stack .now) (c .before .before .before .before .before .before .before .before .before .before .before .before .before .before .args .out .now) (c .before .before .before .before .before .before .before .before .loop .stack) (c .before .before .before .before .before .before .before .before .loop .out) (record { count = c .before .before .before .before .before .before .before .before .loop .count; tail = c .before .before .before .before .before .before .before .before .loop .tail; hints = c .before .before .before .before .before .before .before .before .loop .hints; mask = c .before .before .before .before .before .before .before .before .loop .mask; tokens = c .before .before .before .before .before .before .before .before .loop .tokens; length = c .before .before .before .before .before .before .before .before .loop .end }) (c .before .before .before .before .before .before .before .before .loop .i) (d .turn) (c .before .before .before .before .before .looked5 .given .0 .0) _ _ f (c .before .before .put-operator3 .ensures .1) refl (c .before .before .put-operator3 .ensures .0)
+run-returns-5 t c = let d = head t (c .before .before .before .before .before .before .before) in let f = asks _ _ _ _ _ _ _ _ _ _ _ _ _ d (End _) (c .before .before .before .before .before .looked5 .given .1) in arm-end _ _ _ _ _ _ _ _ _ _ _ _ (d .turn) (c .before .before .before .before .before .looked5 .given .0 .0) _ _ f (c .before .before .put-operator3 .ensures .1) refl (c .before .before .put-operator3 .ensures .0)
 
 run-enum-told-5 : (t : ℕ) → Of run-lts.Need-enum-told-5 t
 run-enum-told-5 t c = search needs
@@ -335,7 +335,7 @@ run-same-length-12 t c = c .before .before .before .loop .inv .1
 
 run-returns-6 : (t : ℕ) → Of run-lts.Need-returns-6 t
 unfolding RunsTo
-run-returns-6 t c = let d = head t (c .before .before) in let f = asks (c .before .before .before .before .before .before .before .before .before .args .cs .now) (c .before .before .before .before .before .before .before .before .before .args .globals .now) (c .before .before .before .before .before .before .before .before .before .args .locals .now) (c .before .before .before .before .before .before .before .before .before .args .by) (c .before .before .before .before .before .before .before .before .before .args .levels) (c .before .before .before .before .before .before .before .before .before .args .s) (c .before .before .before .before .before .before .before .before .before .args .stack .now) (c .before .before .before .before .before .before .before .before .before .args .out .now) (c .before .before .before .loop .stack) (c .before .before .before .loop .out) (record { count = c .before .before .before .loop .count; tail = c .before .before .before .loop .tail; hints = c .before .before .before .loop .hints; mask = c .before .before .before .loop .mask; tokens = c .before .before .before .loop .tokens; length = c .before .before .before .loop .end }) (c .before .before .before .loop .i) (c .before .before .look .result) d Empty (c .enum-told5 .given .1) in arm-out (c .before .before .before .before .before .before .before .before .before .args .cs .now) (c .before .before .before .before .before .before .before .before .before .args .globals .now) (c .before .before .before .before .before .before .before .before .before .args .locals .now) (c .before .before .before .before .before .before .before .before .before .args .by) (c .before .before .before .before .before .before .before .before .before .args .levels) (c .before .before .before .before .before .before .before .before .before .args .s) (c .before .before .before .before .before .before .before .before .before .args .stack .now) (c .before .before .before .before .before .before .before .before .before .args .out .now) (c .before .before .before .loop .stack) (c .before .before .before .loop .out) (record { count = c .before .before .before .loop .count; tail = c .before .before .before .loop .tail; hints = c .before .before .before .loop .hints; mask = c .before .before .before .loop .mask; tokens = c .before .before .before .loop .tokens; length = c .before .before .before .loop .end }) (c .before .before .before .loop .i) (d .turn) f
+run-returns-6 t c = let d = head t (c .before .before) in let f = asks _ _ _ _ _ _ _ _ _ _ _ _ _ d Empty (c .enum-told5 .given .1) in arm-out _ _ _ _ _ _ _ _ _ _ _ _ (d .turn) f
 
 run-enum-known-looked-6 : (t : ℕ) → Of run-lts.Need-enum-known-looked-6 t
 run-enum-known-looked-6 t c = search needs
@@ -348,7 +348,7 @@ run-same-length-14 t c = c .before .before .before .before .loop .inv .1
 
 run-returns-7 : (t : ℕ) → Of run-lts.Need-returns-7 t
 unfolding RunsTo
-run-returns-7 t c = let d = head t (c .before .before .before) in let f = asks (c .before .before .before .before .before .before .before .before .before .before .args .cs .now) (c .before .before .before .before .before .before .before .before .before .before .args .globals .now) (c .before .before .before .before .before .before .before .before .before .before .args .locals .now) (c .before .before .before .before .before .before .before .before .before .before .args .by) (c .before .before .before .before .before .before .before .before .before .before .args .levels) (c .before .before .before .before .before .before .before .before .before .before .args .s) (c .before .before .before .before .before .before .before .before .before .before .args .stack .now) (c .before .before .before .before .before .before .before .before .before .before .args .out .now) (c .before .before .before .before .loop .stack) (c .before .before .before .before .loop .out) (record { count = c .before .before .before .before .loop .count; tail = c .before .before .before .before .loop .tail; hints = c .before .before .before .before .loop .hints; mask = c .before .before .before .before .loop .mask; tokens = c .before .before .before .before .loop .tokens; length = c .before .before .before .before .loop .end }) (c .before .before .before .before .loop .i) (c .before .before .before .look .result) d (Bad _) (c .before .looked6 .given .1) in arm-bad (c .before .before .before .before .before .before .before .before .before .before .args .cs .now) (c .before .before .before .before .before .before .before .before .before .before .args .globals .now) (c .before .before .before .before .before .before .before .before .before .before .args .locals .now) (c .before .before .before .before .before .before .before .before .before .before .args .by) (c .before .before .before .before .before .before .before .before .before .before .args .levels) (c .before .before .before .before .before .before .before .before .before .before .args .s) (c .before .before .before .before .before .before .before .before .before .before .args .stack .now) (c .before .before .before .before .before .before .before .before .before .before .args .out .now) (c .before .before .before .before .loop .stack) (c .before .before .before .before .loop .out) (record { count = c .before .before .before .before .loop .count; tail = c .before .before .before .before .loop .tail; hints = c .before .before .before .before .loop .hints; mask = c .before .before .before .before .loop .mask; tokens = c .before .before .before .before .loop .tokens; length = c .before .before .before .before .loop .end }) (c .before .before .before .before .loop .i) (d .turn) _ f
+run-returns-7 t c = let d = head t (c .before .before .before) in let f = asks _ _ _ _ _ _ _ _ _ _ _ _ _ d (Bad _) (c .before .looked6 .given .1) in arm-bad _ _ _ _ _ _ _ _ _ _ _ _ (d .turn) _ f
 
 pub +run-spec : {M : Type 1} → statement M
 +run-spec = close μ-run λ t. run-lts.spec (callees t)
@@ -359,7 +359,7 @@ pub +run-spec : {M : Type 1} → statement M
     (run-loop-holds t)
     (run-look-requires t)
     (run-enum-known-looked t)
-    (run-put-operand-requires t)
+    (run-put-number-requires t)
     (run-pack-requires t)
     (run-mul-stack t)
     (run-slice-write-stack t)
@@ -375,10 +375,10 @@ pub +run-spec : {M : Type 1} → statement M
     (run-loop-again-2 t)
     (run-enum-known-looked-3 t)
     (run-put-operator-requires-2 t)
-    (run-sub-put-mask t)
-    (run-part-put-mask-start t)
-    (run-part-put-mask-end t)
-    (run-put-mask-requires t)
+    (run-sub-put-bytes t)
+    (run-part-put-bytes-start t)
+    (run-part-put-bytes-end t)
+    (run-put-bytes-requires t)
     (run-sub-mask t)
     (run-add-tokens-3 t)
     (run-loop-less-3 t)

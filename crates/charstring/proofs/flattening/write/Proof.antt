@@ -1,12 +1,16 @@
-use Rattle.charstring.specs.VerdictLaws.{by-stop, by-short, by-flat, held}
+use Rattle.charstring.specs.VerdictLaws.{by-stop, by-short, by-flat, by-held, held}
 use Rattle.charstring.specs.Verdicts.{measured}
 use mathlib.Core.Path.{sym, ap, _∙_}
+use native.Mathlib.Omega.{arith}
 use borrow.Author.Needs.{needs}
 use Rattle.charstring.proofs.flattening.write.Statement.{statement}
 use Rattle.charstring.proofs.flattening.write.Tie as tie
 
-measure-requires : tie.Need-measure-requires
-measure-requires c κs = search needs
+slice-aggregate-draft : tie.Need-slice-aggregate-draft
+slice-aggregate-draft c = search needs
+
+draft-requires : tie.Need-draft-requires
+draft-requires c κs = search needs
 
 enum-known-k : tie.Need-enum-known-k
 enum-known-k c = search needs
@@ -15,29 +19,46 @@ enum-known-n : tie.Need-enum-known-n
 enum-known-n c = search needs
 
 returns : tie.Need-returns
-returns c = by-short _ _ _ _ (ap measured (sym (c .before .before .n .given .1)) ∙ c .before .before .before .before .measure .ensures) (c .if1 .taken)
+returns c = by-short _ _ _ _ (ap measured (sym (c .before .before .n .given .1)) ∙ c .before .before .before .before .before .draft .ensures .0) (c .if1 .taken)
+
+slice-aggregate-keep : tie.Need-slice-aggregate-keep
+slice-aggregate-keep c = search needs
+
+keep-requires : tie.Need-keep-requires
+keep-requires c κs = search needs
 
 fill-requires : tie.Need-fill-requires
-fill-requires c κs = held (c .before .before .before .before .before .before .before .before .before .before .args .out .now) _ _ _ (ap measured (sym (c .before .before .before .n .given .1)) ∙ c .before .before .before .before .before .measure .ensures) _ (c .before .if1 .left)
+fill-requires c κs = held (c .before .before .before .before .before .before .before .before .before .before .before .before .before .args .out .now) _ _ _ (ap measured (sym (c .before .before .before .before .n .given .1)) ∙ c .before .before .before .before .before .before .before .draft .ensures .0) _ (c .before .before .if1 .left)
 
 returns-2 : tie.Need-returns-2
-returns-2 c = by-stop _ _ _ _ (ap measured (sym (c .before .k .given .1)) ∙ c .before .before .before .measure .ensures)
+returns-2 c = by-stop _ _ _ _ (ap measured (sym (c .before .k .given .1)) ∙ c .before .before .before .before .draft .ensures .0)
 
 same-length : tie.Need-same-length
 same-length c = search needs
 
 returns-3 : tie.Need-returns-3
-returns-3 c = by-flat _ _ _ _ (ap measured (sym (c .before .before .before .before .before .before .n .given .1)) ∙ c .before .before .before .before .before .before .before .before .measure .ensures) (c .before .before .before .before .if1 .left) _ (c .before .before .fill .ensures)
+returns-3 c = by-held _ _ _ _ (ap measured (sym (c .before .before .before .before .before .before .before .before .n .given .1)) ∙ c .before .before .before .before .before .before .before .before .before .before .before .draft .ensures .0) (c .before .before .before .before .before .before .if1 .left) _ _ (c .before .before .before .before .before .before .before .before .before .before .before .draft .ensures .1) (c .before .before .before .before .before .if2 .taken) (omega arith) _ (c .before .before .keep .ensures)
+
+same-length-2 : tie.Need-same-length-2
+same-length-2 c = search needs
+
+returns-4 : tie.Need-returns-4
+returns-4 c = by-flat _ _ _ _ (ap measured (sym (c .before .before .before .before .before .before .before .n .given .1)) ∙ c .before .before .before .before .before .before .before .before .before .before .draft .ensures .0) (c .before .before .before .before .before .if1 .left) _ (c .before .before .fill .ensures)
 
 pub write-spec : {M : Type 1} → statement M
 write-spec =
     tie.close
     (tie.spec
-    measure-requires
+    slice-aggregate-draft
+    draft-requires
     enum-known-k
     enum-known-n
     returns
+    slice-aggregate-keep
+    keep-requires
     fill-requires
     returns-2
     same-length
-    returns-3)
+    returns-3
+    same-length-2
+    returns-4)

@@ -10,17 +10,17 @@ use Rattle.charstring.proofs.look.look.Statement.{statement}
 use Rattle.charstring.proofs.look.look.Tie as tie
 
 -- where a number is bound, and where an operator is
-number-cut : (c : tie.After-o) → token (number (c .o .given .0 .0)) (drop (c .o .given .0 .1 .0) (c .before .before .before .before .before .before .args .cs .now)) ≡ cut (drop (c .before .before .before .before .before .before .args .i) (c .before .before .before .before .before .before .args .cs .now))
-number-cut c = ap (cutOf (c .before .before .before .before .before .before .args .cs .now)) (sym (c .o .given .1)) ∙ c .before .before .token-at .ensures .0
+number-cut : (c : tie.After-next) → token (number (c .next .given .0 .1 .0)) (drop (c .next .given .0 .0) (c .before .before .before .before .before .before .args .cs .now)) ≡ cut (drop (c .before .before .before .before .before .before .args .i) (c .before .before .before .before .before .before .args .cs .now))
+number-cut c = ap (cutOf (c .before .before .before .before .before .before .args .cs .now)) (sym (c .next .given .1)) ∙ c .before .before .token-at .ensures .0
 
-number-ahead : (c : tie.After-o) → (c .before .before .before .before .before .before .args .i < c .o .given .0 .1 .0) × (c .o .given .0 .1 .0 ≤ length (c .before .before .before .before .before .before .args .cs .now))
-number-ahead c = subst (Ahead (c .before .before .before .before .before .before .args .i) (length (c .before .before .before .before .before .before .args .cs .now))) (c .o .given .1) (c .before .before .token-at .ensures .1)
+number-ahead : (c : tie.After-next) → (c .before .before .before .before .before .before .args .i < c .next .given .0 .0) × (c .next .given .0 .0 ≤ length (c .before .before .before .before .before .before .args .cs .now))
+number-ahead c = subst (Ahead (c .before .before .before .before .before .before .args .i) (length (c .before .before .before .before .before .before .args .cs .now))) (c .next .given .1) (c .before .before .token-at .ensures .1)
 
-operator-cut : (c : tie.After-p) → token (operator (c .p .given .0 .0)) (drop (c .p .given .0 .1 .0) (c .before .before .before .before .before .before .args .cs .now)) ≡ cut (drop (c .before .before .before .before .before .before .args .i) (c .before .before .before .before .before .before .args .cs .now))
-operator-cut c = ap (cutOf (c .before .before .before .before .before .before .args .cs .now)) (sym (c .p .given .1)) ∙ c .before .before .token-at .ensures .0
+operator-cut : (c : tie.After-next2) → token (operator (c .next2 .given .0 .1 .0)) (drop (c .next2 .given .0 .0) (c .before .before .before .before .before .before .args .cs .now)) ≡ cut (drop (c .before .before .before .before .before .before .args .i) (c .before .before .before .before .before .before .args .cs .now))
+operator-cut c = ap (cutOf (c .before .before .before .before .before .before .args .cs .now)) (sym (c .next2 .given .1)) ∙ c .before .before .token-at .ensures .0
 
-operator-ahead : (c : tie.After-p) → (c .before .before .before .before .before .before .args .i < c .p .given .0 .1 .0) × (c .p .given .0 .1 .0 ≤ length (c .before .before .before .before .before .before .args .cs .now))
-operator-ahead c = subst (Ahead (c .before .before .before .before .before .before .args .i) (length (c .before .before .before .before .before .before .args .cs .now))) (c .p .given .1) (c .before .before .token-at .ensures .1)
+operator-ahead : (c : tie.After-next2) → (c .before .before .before .before .before .before .args .i < c .next2 .given .0 .0) × (c .next2 .given .0 .0 ≤ length (c .before .before .before .before .before .before .args .cs .now))
+operator-ahead c = subst (Ahead (c .before .before .before .before .before .before .args .i) (length (c .before .before .before .before .before .before .args .cs .now))) (c .next2 .given .1) (c .before .before .token-at .ensures .1)
 
 returns : tie.Need-returns
 returns c = search needs
@@ -34,14 +34,14 @@ token-at-requires c κs = search needs
 enum-told : tie.Need-enum-told
 enum-told c = search needs
 
-enum-known-o : tie.Need-enum-known-o
-enum-known-o c = search needs
+enum-known-next : tie.Need-enum-known-next
+enum-known-next c = search needs
 
 returns-3 : tie.Need-returns-3
 returns-3 c = full _ _ _ _ _ _ _ _ _ (omega arith) (omega arith) _ _ (number-cut (c .before .before)) (omega arith)
 
-enum-known-p : tie.Need-enum-known-p
-enum-known-p c = search needs
+enum-known-next-2 : tie.Need-enum-known-next-2
+enum-known-next-2 c = search needs
 
 ask-requires : tie.Need-ask-requires
 ask-requires c κs = let a = operator-ahead (c .before) in (search needs, search needs, a .1)
@@ -53,7 +53,7 @@ returns-5 : tie.Need-returns-5
 returns-5 c = let a = number-ahead (c .before .before) in (record { ahead = a .0; inside = a .1; within = omega arith }, sym (number-cut (c .before .before)), omega arith)
 
 returns-6 : tie.Need-returns-6
-returns-6 c = let a = operator-ahead (c .before .before) in let g = c .before .before .before .before .before .before .before .before .args in asked (g .cs .now) (g .i) (g .budget) (g .operands) (g .limit) (g .tokens) (g .count) (g .hints) (g .mask) (omega arith) (omega arith) (c .before .before .p .given .0 .0) (c .before .before .p .given .0 .1 .0) (operator-cut (c .before .before)) (a .0) (a .1) (c .ask .result) (c .ask .ensures)
+returns-6 c = let a = operator-ahead (c .before .before) in let g = c .before .before .before .before .before .before .before .before .args in asked (g .cs .now) (g .i) (g .budget) (g .operands) (g .limit) (g .tokens) (g .count) (g .hints) (g .mask) (omega arith) (omega arith) (c .before .before .next2 .given .0 .1 .0) (c .before .before .next2 .given .0 .0) (operator-cut (c .before .before)) (a .0) (a .1) (c .ask .result) (c .ask .ensures)
 
 pub look-spec : {M : Type 1} → statement M
 look-spec =
@@ -63,9 +63,9 @@ look-spec =
     returns-2
     token-at-requires
     enum-told
-    enum-known-o
+    enum-known-next
     returns-3
-    enum-known-p
+    enum-known-next-2
     ask-requires
     returns-4
     returns-5

@@ -7,8 +7,8 @@ use Rattle.charstring.proofs.token.operator_at.Tie as tie
 shared-slice-read-b : tie.Need-shared-slice-read-b
 shared-slice-read-b c = search needs
 
-add-t8 : tie.Need-add-t8
-add-t8 c = search needs
+add-t7 : tie.Need-add-t7
+add-t7 c = search needs
 
 returns : tie.Need-returns
 returns c = (plain-at _ _ (c .before .before .pre) (c .if1 .taken), (omega arith, omega arith))
@@ -22,11 +22,11 @@ returns-2 c = (lacks-at _ _ (c .before .before .before .pre) (omega arith) (omeg
 add-t9 : tie.Need-add-t9
 add-t9 c = search needs
 
-shared-slice-read-t5 : tie.Need-shared-slice-read-t5
-shared-slice-read-t5 c = search needs
-
 add-t10 : tie.Need-add-t10
 add-t10 c = search needs
+
+shared-slice-read-t5 : tie.Need-shared-slice-read-t5
+shared-slice-read-t5 c = search needs
 
 returns-3 : tie.Need-returns-3
 returns-3 c = (escaped-at _ _ (c .before .before .before .before .pre) (omega arith) (omega arith), (omega arith, omega arith))
@@ -36,11 +36,11 @@ operator-at-spec =
     tie.close
     (tie.spec
     shared-slice-read-b
-    add-t8
+    add-t7
     returns
     add-if2
     returns-2
     add-t9
-    shared-slice-read-t5
     add-t10
+    shared-slice-read-t5
     returns-3)

@@ -1,4 +1,8 @@
-use Rattle.number.specs.NumberLaws.{widthOf, operandOf, read-none, read-some, by-none, by-short, by-row, width-le, width-is}
+use Rattle.number.specs.declared.read.After.the-variants.{Bytes}
+use Rattle.number.specs.BigEndian.{beAt}
+use lib.Dec.{lit<}
+use borrow.Author.Tests.{ltb-true}
+use Rattle.number.specs.NumberLaws.{afterOf, widthOf, after-near, operandOf, read-none, read-some, by-none, by-short, by-row, width-le, width-is}
 use Rattle.number.specs.Number.{rowsOf, rowOf}
 use Rattle.number.specs.BigEndianLaws.{be-lt}
 use lib.ListN.{getD}
@@ -9,7 +13,7 @@ use Rattle.number.proofs.read.read_number.Statement.{statement}
 use Rattle.number.proofs.read.read_number.Tie as tie
 
 -- where the width is bound
-width-of : (c : tie.After-k) → c .k .given .0 .0 ≡ widthOf (rowOf (getD (c .before .before .before .before .before .before .args .s .now) 0 0) (rowsOf (c .before .before .before .before .before .before .args .dict)))
+width-of : (c : tie.After-k) → c .k .given .0 .0 ≡ widthOf (rowOf (getD (c .before .before .before .before .before .before .before .args .s .now) 0 0) (rowsOf (c .before .before .before .before .before .before .before .args .dict)))
 width-of c = width-is _ _ (sym (c .k .given .1) ∙ c .before .before .bytes-after .ensures)
 
 returns : tie.Need-returns
@@ -17,6 +21,17 @@ returns c = read-none _ _ (c .if1 .taken)
 
 shared-slice-read-b : tie.Need-shared-slice-read-b
 shared-slice-read-b c = search needs
+
+-- the row of a first byte from 32 to 246
+near-by : (c : tie.Then3) → Bytes 0 ≡ afterOf (rowOf (getD (c .before .before .before .before .before .args .s .now) 0 0) (rowsOf (c .before .before .before .before .before .args .dict)))
+near-by c = after-near _ _ (c .before .if2 .taken) (ltb-true _ 247 (c .if3 .taken))
+
+operand-of-requires : tie.Need-operand-of-requires
+operand-of-requires c κs = rw (← width-is _ 0 (near-by c)) (lit< tt)
+
+returns-2 : tie.Need-returns-2
+unfolding beAt
+returns-2 c = by-row _ _ 0 _ (near-by (c .before)) (omega arith) (c .operand-of .ensures) ∙ read-some _ _ (c .before .before .before .before .if1 .left)
 
 bytes-after-requires : tie.Need-bytes-after-requires
 bytes-after-requires c κs = search needs
@@ -27,23 +42,23 @@ enum-known-k c = search needs
 enum-told : tie.Need-enum-told
 enum-told c = search needs
 
-returns-2 : tie.Need-returns-2
-returns-2 c = by-none _ _ (sym (c .enum-told .given .1) ∙ c .before .before .bytes-after .ensures) ∙ read-some _ _ (c .before .before .before .before .if1 .left)
-
 returns-3 : tie.Need-returns-3
-returns-3 c = by-short _ _ _ (sym (c .before .before .k .given .1) ∙ c .before .before .before .before .bytes-after .ensures) (c .if2 .taken) ∙ read-some _ _ (c .before .before .before .before .before .before .if1 .left)
+returns-3 c = by-none _ _ (sym (c .enum-told .given .1) ∙ c .before .before .bytes-after .ensures) ∙ read-some _ _ (c .before .before .before .before .before .if1 .left)
+
+returns-4 : tie.Need-returns-4
+returns-4 c = by-short _ _ _ (sym (c .before .before .k .given .1) ∙ c .before .before .before .before .bytes-after .ensures) (c .if4 .taken) ∙ read-some _ _ (c .before .before .before .before .before .before .before .if1 .left)
 
 be-requires : tie.Need-be-requires
-be-requires c κs = let e = width-of (c .before .before) in omega (arith, width-le (c .before .before .before .before .before .before .before .before .args .dict) (getD (c .before .before .before .before .before .before .before .before .args .s .now) 0 0))
+be-requires c κs = let e = width-of (c .before .before) in omega (arith, width-le (c .before .before .before .before .before .before .before .before .before .args .dict) (getD (c .before .before .before .before .before .before .before .before .before .args .s .now) 0 0))
 
-operand-of-requires : tie.Need-operand-of-requires
-operand-of-requires c κs = rw (← width-of (c .before .before .before), c .be .ensures) (be-lt _ 1 _ (λ i. c .before .before .before .before .before .before .shared-slice-known2 .given i .fits))
+operand-of-requires-2 : tie.Need-operand-of-requires-2
+operand-of-requires-2 c κs = rw (← width-of (c .before .before .before), c .be .ensures) (be-lt _ 1 _ (λ i. c .before .before .before .before .before .before .before .shared-slice-known2 .given i .fits))
 
 add-t6 : tie.Need-add-t6
 add-t6 c = search needs
 
-returns-4 : tie.Need-returns-4
-returns-4 c = by-row _ _ _ _ (sym (c .before .before .before .before .k .given .1) ∙ c .before .before .before .before .before .before .bytes-after .ensures) (c .before .before .if2 .left) (c .operand-of .ensures ∙ ap (operandOf (rowOf (getD (c .before .before .before .before .before .before .before .before .before .before .args .s .now) 0 0) (rowsOf (c .before .before .before .before .before .before .before .before .before .before .args .dict))) (getD (c .before .before .before .before .before .before .before .before .before .before .args .s .now) 0 0)) (c .before .be .ensures)) ∙ read-some _ _ (c .before .before .before .before .before .before .before .before .if1 .left)
+returns-5 : tie.Need-returns-5
+returns-5 c = by-row _ _ _ _ (sym (c .before .before .before .before .k .given .1) ∙ c .before .before .before .before .before .before .bytes-after .ensures) (c .before .before .if4 .left) (c .operand-of2 .ensures ∙ ap (operandOf (rowOf (getD (c .before .before .before .before .before .before .before .before .before .before .before .args .s .now) 0 0) (rowsOf (c .before .before .before .before .before .before .before .before .before .before .before .args .dict))) (getD (c .before .before .before .before .before .before .before .before .before .before .before .args .s .now) 0 0)) (c .before .be .ensures)) ∙ read-some _ _ (c .before .before .before .before .before .before .before .before .before .if1 .left)
 
 pub read-number-spec : {M : Type 1} → statement M
 read-number-spec =
@@ -51,12 +66,14 @@ read-number-spec =
     (tie.spec
     returns
     shared-slice-read-b
+    operand-of-requires
+    returns-2
     bytes-after-requires
     enum-known-k
     enum-told
-    returns-2
     returns-3
+    returns-4
     be-requires
-    operand-of-requires
+    operand-of-requires-2
     add-t6
-    returns-4)
+    returns-5)

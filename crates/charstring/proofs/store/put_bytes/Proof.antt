@@ -5,8 +5,8 @@ use lib.ListN.{length, take, set, getD, length-set}
 use Rattle.charstring.specs.Words.{puts}
 use Rattle.charstring.specs.WordsLaws.{puts-next, puts-clipped}
 use Rattle.charstring.proofs.Stored.{stored-none}
-use Rattle.charstring.proofs.store.put_mask.Statement.{statement}
-use Rattle.charstring.proofs.store.put_mask.Tie as tie
+use Rattle.charstring.proofs.store.put_bytes.Statement.{statement}
+use Rattle.charstring.proofs.store.put_bytes.Tie as tie
 
 abbrev Inv-loop : tie.InvT-loop
 Inv-loop out₀ limit at m n k₀ out k = (k ≤ n) × (length out ≡ length out₀) × (out ≡ puts limit at (take k m) out₀)
@@ -47,8 +47,8 @@ same-length c = c .before .loop .inv .1
 returns : tie.Need-returns Inv-loop μ-loop
 returns c = (refl, c .before .loop .inv .2 ∙ puts-clipped _ _ _ _ (c .before .loop .k) (omega arith))
 
-pub put-mask-spec : {M : Type 1} → statement M
-put-mask-spec =
+pub put-bytes-spec : {M : Type 1} → statement M
+put-bytes-spec =
     tie.close
     (tie.spec
     Inv-loop

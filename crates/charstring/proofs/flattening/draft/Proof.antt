@@ -1,0 +1,83 @@
+use Rattle.charstring.specs.VerdictLaws.{ready, done, came-back, all-ended, was-stopped, few-tokens}
+use Rattle.charstring.specs.Run.{Done}
+use Rattle.reading.specs.Rules.{rulesOf}
+use Rattle.reading.specs.Lists.{listsOf}
+use Rattle.reading.specs.Reading.{reading}
+use Rattle.reading.specs.BudgetLaws.{tokens-budget}
+use lib.ListN.{length}
+use native.Mathlib.Nat.{le-refl}
+use mathlib.Core.Path.{refl}
+use borrow.Author.Needs.{needs}
+use Rattle.charstring.proofs.flattening.draft.Statement.{statement}
+use Rattle.charstring.proofs.flattening.draft.Tie as tie
+
+-- the run is the reading's
+ran : (c : tie.After-run)
+    → Done (rulesOf (c .before .before .before .before .before .before .before .before .before .before .args .profile)) (length (c .before .before .before .before .before .before .before .before .before .before .args .held .now)) (c .before .before .before .before .before .before .before .before .before .before .args .held .now) (c .run .last .1 .1 .1 .1 .1 .0) (c .run .last .1 .1 .1 .1 .1 .1 .0) (c .run .result)
+    (reading (rulesOf (c .before .before .before .before .before .before .before .before .before .before .args .profile)) (listsOf 2 (c .before .before .before .before .before .before .before .before .before .before .args .globals .now) (c .before .before .before .before .before .before .before .before .before .before .args .locals .now)) (c .before .before .before .before .before .before .before .before .before .before .args .budget) (c .before .before .before .before .before .before .before .before .before .before .args .cs .now))
+ran c = done (c .before .before .before .before .before .before .before .before .before .before .args .profile) (length (c .before .before .before .before .before .before .before .before .before .before .args .held .now)) _ _ refl _ _ (c .before .before .before .before .before .before .before .before .before .before .args .budget) _ _ (c .before .before .before .before .begun .ensures) (c .before .before .before .before .before .limits-of .ensures) _ _ _ _ _ (c .before .levels-of .ensures) (c .run .ensures)
+
+limits-of-requires : tie.Need-limits-of-requires
+limits-of-requires c κs = search needs
+
+begun-requires : tie.Need-begun-requires
+begun-requires c κs = search needs
+
+slice-aggregate-run : tie.Need-slice-aggregate-run
+slice-aggregate-run c = search needs
+
+levels-of-requires : tie.Need-levels-of-requires
+levels-of-requires c κs = search needs
+
+run-requires : tie.Need-run-requires
+run-requires c κs = ready (c .before .before .before .before .before .before .before .before .before .args .profile) (length (c .before .before .before .before .before .before .before .before .before .args .held .now)) _ _ refl _ _ (c .before .before .before .before .before .before .before .before .before .args .budget) _ _ (c .before .before .before .begun .ensures) (c .before .before .before .before .limits-of .ensures) (le-refl _)
+
+enum-told : tie.Need-enum-told
+enum-told c = search needs
+
+enum-told-2 : tie.Need-enum-told-2
+enum-told-2 c = search needs
+
+enum-known-how : tie.Need-enum-known-how
+enum-known-how c = search needs
+
+counted-requires : tie.Need-counted-requires
+counted-requires c κs = few-tokens _ _ _ _ _ _ _ (ran (c .before .before .before .before .before .before .before)) _ (c .before .how .given .1) (c .before .before .before .before .before .before .before .before .before .before .before .before .before .before .before .before .before .args .budget) (tokens-budget _ _ _ _) (c .before .before .before .before .before .before .before .before .before .before .before .before .before .before .before .before .before .fits .budget .fits)
+
+same-length : tie.Need-same-length
+same-length c = search needs
+
+returns : tie.Need-returns
+returns c = let d = ran (c .before .before .before .before .before .before) in (came-back _ _ _ _ _ _ _ d (c .enum-told .given .1), d .bytes)
+
+same-length-2 : tie.Need-same-length-2
+same-length-2 c = search needs
+
+returns-2 : tie.Need-returns-2
+returns-2 c = let d = ran (c .before .before .before .before .before .before) in (all-ended _ _ _ _ _ _ _ d (c .enum-told2 .given .1), d .bytes)
+
+same-length-3 : tie.Need-same-length-3
+same-length-3 c = search needs
+
+returns-3 : tie.Need-returns-3
+returns-3 c = let d = ran (c .before .before .before .before .before .before .before .before) in (was-stopped _ _ _ _ _ _ _ d _ (c .before .before .how .given .1) _ (c .counted .ensures), d .bytes)
+
+pub draft-spec : {M : Type 1} → statement M
+draft-spec =
+    tie.close
+    (tie.spec
+    limits-of-requires
+    begun-requires
+    slice-aggregate-run
+    levels-of-requires
+    run-requires
+    enum-told
+    enum-told-2
+    enum-known-how
+    counted-requires
+    same-length
+    returns
+    same-length-2
+    returns-2
+    same-length-3
+    returns-3)
