@@ -1,14 +1,33 @@
 -- What a C function answers, and what it leaves at the places that were lent to it.
-use mathlib.Core.Path.{_≡_, ap, _∙_}
+use mathlib.Core.Path.{_≡_, sym, ap, _∙_}
 use Prim.Native.Nat.{ℕ}
-use mathlib.Core.Bool.{Bool, not}
+use mathlib.Core.Bool.{Bool, true, false, not, cond}
 use mathlib.Core.List.{List, [], _∷_}
+use lib.IntN.{ℤ}
 use lib.Dec.{eqb}
 use Rattle.number.specs.Answer.{Answer, accepted, refused, Outcome}
+use Rattle.number.specs.Number.{Number}
+use Rattle.number.specs.declared.Operand.{Operand}
+use Rattle.reading.specs.Answers.{Flattening, Outcome as Flat}
+use Rattle.reading.specs.declared.Profile.{Profile}
+use Rattle.reading.specs.declared.Profile.the-variants.{Plain, Strict}
 
--- a number of C's as a truth value
+-- ---- C's numbers
+
 abbrev pub nonzero : ℕ → Bool
 nonzero n = not (eqb n 0)
+
+abbrev pub kindOf : Bool → ℕ
+kindOf false = 0
+kindOf true = 1
+
+abbrev pub operandOf : ℕ → ℤ → Operand
+operandOf kind value = record { fixed = nonzero kind; value = value }
+
+unfoldable pub profileOf : ℕ → Profile
+profileOf n = cond (eqb n 0) Plain Strict
+
+-- ---- of a reader: the number, and what is at the place
 
 -- A number of document 01, and what is at the place; of several places, a record of what is at each.
 pub record Told (A : Type 0) : Type 0 where
@@ -31,29 +50,60 @@ pub tell-refused : {A : Type 0} (a : Answer A) (old : A) (n : ℕ) (v : List ℕ
 unfolding tell
 tell-refused a old n v e = ap (λ b. tell b old) e
 
--- ---- of a writer: the number, what is at the place of the length, and the room
+-- what was accepted, as it lies at the places
+abbrev pub laid : {A B : Type 0} → (A → B) → Answer A → Answer B
+laid f (accepted x) = accepted (f x)
+laid f (refused n v) = refused n v
 
-pub record Written : Type 0 where
+pub record NumberPlaces : Type 0 where
+  pub kind : ℕ
+  pub value : ℤ
+  pub width : ℕ
+
+abbrev pub numberPlaces : Number → NumberPlaces
+numberPlaces x = record { kind = kindOf (x .operand .fixed); value = x .operand .value; width = x .width }
+
+pub record IntegerPlaces : Type 0 where
+  pub value : ℤ
+  pub width : ℕ
+
+abbrev pub integerPlaces : Number → IntegerPlaces
+integerPlaces x = record { value = x .operand .value; width = x .width }
+
+-- ---- of a writer: the number, what is at the places, and the room
+
+pub record Written (A : Type 0) : Type 0 where
   pub number : ℕ
-  pub length : ℕ
+  pub place : A
   pub left : List ℕ
 
-unfoldable pub numberBy : Answer ℕ → ℕ
-numberBy (accepted n) = 0
-numberBy (refused k v) = k
+-- accepted: 0 and the value; refused: the number, and what its values make of the places
+unfoldable pub tellWritten : {A : Type 0} → (List ℕ → A → A) → Answer A → List ℕ → A → Written A
+tellWritten give (accepted x) left old = record { number = 0; place = x; left = left }
+tellWritten give (refused n v) left old = record { number = n; place = give v old; left = left }
 
--- the length written, or the length that a refusal gives; else what it was
-unfoldable pub lengthBy : Answer ℕ → ℕ → ℕ
-lengthBy (accepted n) old = n
-lengthBy (refused k []) old = old
-lengthBy (refused k (n ∷ v)) old = n
+-- a refusal gives no value, or the length
+unfoldable pub lengthFrom : List ℕ → ℕ → ℕ
+lengthFrom [] old = old
+lengthFrom (n ∷ v) old = n
 
-unfoldable pub tellWritten : Outcome → ℕ → Written
-tellWritten o old = record { number = numberBy (o .answer); length = lengthBy (o .answer) old; left = o .left }
+-- a refusal gives no value, the tokens, or the length and the tokens
+unfoldable pub sizesFrom : List ℕ → Flattening → Flattening
+sizesFrom [] old = old
+sizesFrom (t ∷ []) old = record { size = old .size; tokens = t }
+sizesFrom (n ∷ t ∷ v) old = record { size = n; tokens = t }
 
-pub tell-written : (a : Answer ℕ) (left : List ℕ) (o : Outcome) (old k n : ℕ) → record { answer = a; left = left } ≡ o → k ≡ numberBy a → n ≡ lengthBy a old
-    → record { number = k; length = n; left = left } ≡ tellWritten o old
-unfolding tellWritten
-tell-written a left o old k n e p q =
-    ap (λ (m : ℕ). record { number = m; length = n; left = left }) p ∙ ap (λ (m : ℕ). record { number = numberBy a; length = m; left = left }) q
-    ∙ ap (λ (x : Outcome). tellWritten x old) e
+abbrev pub tellLength : Outcome → ℕ → Written ℕ
+tellLength o old = tellWritten lengthFrom (o .answer) (o .left) old
+
+abbrev pub tellFlattening : Flat → Flattening → Written Flattening
+tellFlattening o old = tellWritten sizesFrom (o .answer) (o .left) old
+
+-- what is told of an outcome whose answer is known
+pub tell-known : {E O A W : Type 0} (tells : O → A → W) (says : E → List ℕ → O) {r w : E} {o : O} (left : List ℕ) (old : A)
+    → r ≡ w → says r left ≡ o → tells (says w left) old ≡ tells o old
+tell-known tells says left old e p = ap (λ x. tells x old) (ap (λ x. says x left) (sym e) ∙ p)
+
+pub tell-length : {E : Type 0} (answer : E → Answer ℕ) {r w : E} {o : Outcome} (left : List ℕ) (old : ℕ)
+    → r ≡ w → record { answer = answer r; left = left } ≡ o → tellLength (record { answer = answer w; left = left }) old ≡ tellLength o old
+tell-length answer left old e p = tell-known tellLength (λ x l. record { answer = answer x; left = l }) left old e p

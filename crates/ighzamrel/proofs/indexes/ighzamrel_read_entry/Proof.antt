@@ -3,8 +3,8 @@ use Rattle.ighzamrel.specs.Told.{tell-accepted, tell-refused}
 use Rattle.index.specs.Index.{entryRead}
 use mathlib.Core.Path.{sym, ap, _∙_}
 use borrow.Author.Needs.{needs}
-use Rattle.ighzamrel.proofs.ighzamrel_read_entry.Statement.{statement}
-use Rattle.ighzamrel.proofs.ighzamrel_read_entry.Tie as tie
+use Rattle.ighzamrel.proofs.indexes.ighzamrel_read_entry.Statement.{statement}
+use Rattle.ighzamrel.proofs.indexes.ighzamrel_read_entry.Tie as tie
 
 read-entry-requires : tie.Need-read-entry-requires
 read-entry-requires c κs = search needs

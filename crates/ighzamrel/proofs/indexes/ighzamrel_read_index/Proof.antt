@@ -3,8 +3,8 @@ use Rattle.ighzamrel.specs.Told.{tell-accepted, tell-refused}
 use Rattle.index.specs.Index.{indexRead}
 use mathlib.Core.Path.{sym, ap, _∙_}
 use borrow.Author.Needs.{needs}
-use Rattle.ighzamrel.proofs.ighzamrel_read_index.Statement.{statement}
-use Rattle.ighzamrel.proofs.ighzamrel_read_index.Tie as tie
+use Rattle.ighzamrel.proofs.indexes.ighzamrel_read_index.Statement.{statement}
+use Rattle.ighzamrel.proofs.indexes.ighzamrel_read_index.Tie as tie
 
 read-index-requires : tie.Need-read-index-requires
 read-index-requires c κs = search needs
