@@ -1,0 +1,136 @@
+/*
+ * Ighzamrel: Type 2 charstrings of a CFF font made flat, and the numbers and INDEXes that they stand in.
+ *
+ * Each function takes any bytes, ends, and answers 0, which is accepted, or the number of one refusal.
+ * What each answers is proved; docs/PROOFS.md says against what.
+ *
+ * Places. A pointer to a single value is a place for a part of the answer. A place for a value that the
+ * answer does not give is left as it was.
+ *
+ * Lent bytes. Inputs are never changed. A refusal changes no byte of `out`; acceptance changes only the
+ * first *length bytes of it.
+ *
+ * Pointers. A slice is a pointer, `x`, and then how many elements it has, `x_len`. Every pointer is valid
+ * and aligned, and none is null, also where the length is 0. `out` and the places overlap nothing: no
+ * input, and not each other. Inputs may overlap each other.
+ *
+ * There is no state, nothing is allocated, and nothing is called but memset; so any threads may call at
+ * once, each with its own `out` and places. ighzamrel_flatten goes one call deeper for each call of the
+ * charstring: at 64 strings deep, the most in plain, it used less than 34 KiB of stack, at 11, the most in
+ * strict, less than 7 KiB, and each other function less than 200 bytes (x86-64; docs/BENCHMARKS.md says
+ * how that was measured).
+ */
+#ifndef IGHZAMREL_H
+#define IGHZAMREL_H
+
+#include <stddef.h>
+#include <stdint.h>
+
+#ifdef __cplusplus
+extern "C" {
+#endif
+
+/* What a function answers. */
+enum ighzamrel_answer {
+    IGHZAMREL_ACCEPTED = 0,
+    IGHZAMREL_BAD_GLOBALS = 1,        /* the global list is not well formed */
+    IGHZAMREL_BAD_LOCALS = 2,         /* the local list is not well formed */
+    IGHZAMREL_BUDGET_SPENT = 3,       /* a token remains, and the budget is used up */
+    IGHZAMREL_BYTES_LACKING = 4,      /* a number, an escape or a mask lacks bytes */
+    IGHZAMREL_TOO_MANY_OPERANDS = 5,  /* a 49th operand */
+    IGHZAMREL_UNKNOWN = 6,            /* a byte that starts no number; an operator that is not supported */
+    IGHZAMREL_NO_INDEX = 7,           /* a call with an empty stack, or an index that is not whole */
+    IGHZAMREL_INDEX_NOT_LAST = 8,     /* a call whose index is not the last item of the flat string */
+    IGHZAMREL_NO_ENTRY = 9,           /* a call of an entry that is not there */
+    IGHZAMREL_TOO_DEEP = 10,          /* calls nest too deep: over 64 strings in plain, over 11 in strict */
+    IGHZAMREL_TOO_MANY_HINTS = 11,    /* over 65535 hints in plain, over 96 in strict */
+    IGHZAMREL_COMPOSITE = 12,         /* endchar with four or more operands */
+    IGHZAMREL_SHORT = 13,             /* the result is longer than the room */
+    IGHZAMREL_OUTSIDE_16_BITS = 17,   /* writing: a charstring integer outside 16 bits */
+    IGHZAMREL_INDEX_LACKING = 20,     /* bytes of an INDEX are lacking */
+    IGHZAMREL_OFFSET_SIZE = 21,       /* the offset size is not 1 to 4 */
+    IGHZAMREL_TOO_MANY_ELEMENTS = 22, /* writing: over 65535 elements */
+    IGHZAMREL_TOO_LONG = 23,          /* writing: the last offset is over 4294967295 */
+    IGHZAMREL_LENGTHS_MISMATCH = 24,  /* writing: the lengths do not add up to the data */
+    IGHZAMREL_ENTRY_ABSENT = 25       /* the INDEX has no such entry */
+};
+
+/* The kind of an operand, `kind`. What is not 0 is taken as a Fixed; reading gives 0 or 1. */
+enum ighzamrel_kind {
+    IGHZAMREL_INTEGER = 0,
+    IGHZAMREL_FIXED = 1 /* a value that counts 65536ths */
+};
+
+/* The rules to run by, `profile`. What is not 0 is taken as strict. */
+enum ighzamrel_profile {
+    IGHZAMREL_PLAIN = 0,
+    IGHZAMREL_STRICT = 1
+};
+
+/*
+ * The number at the start of a part of a charstring.
+ * 0: *kind, *value, and *width, how many bytes it is. 4 or 6: no place.
+ */
+uint32_t ighzamrel_read_charstring_number(const uint8_t *bytes, size_t bytes_len, uint32_t *kind, int32_t *value,
+                                          size_t *width);
+
+/*
+ * The integer at the start of a part of a DICT.
+ * 0: *value, and *width, how many bytes it is. 4 or 6: no place.
+ */
+uint32_t ighzamrel_read_dict_integer(const uint8_t *bytes, size_t bytes_len, int32_t *value, size_t *width);
+
+/*
+ * Writes a charstring number to the start of out, an integer in its shortest form.
+ * 0: *length, how many bytes it has. 13: *length, how many it needs. 17: no place.
+ */
+uint32_t ighzamrel_write_charstring_number(uint32_t kind, int32_t value, uint8_t *out, size_t out_len,
+                                           size_t *length);
+
+/*
+ * Writes a DICT integer to the start of out, in its shortest form.
+ * 0: *length, how many bytes it has. 13: *length, how many it needs.
+ */
+uint32_t ighzamrel_write_dict_integer(int32_t value, uint8_t *out, size_t out_len, size_t *length);
+
+/*
+ * The index that an operand is at a call, before the bias is added.
+ * 0: *index. 7: no place.
+ */
+uint32_t ighzamrel_call_index(uint32_t kind, int32_t value, uint32_t profile, int32_t *index);
+
+/*
+ * The INDEX at the start of the bytes.
+ * 0: *count, how many entries it has, and *taken, how many bytes it takes. 20 or 21: no place.
+ */
+uint32_t ighzamrel_read_index(const uint8_t *bytes, size_t bytes_len, uint32_t *count, size_t *taken);
+
+/*
+ * Entry `number`, counted from 0, of the INDEX at the start of the bytes.
+ * 0: *place, where it starts, counted from the first of the bytes, and *length. 20, 21 or 25: no place.
+ */
+uint32_t ighzamrel_read_entry(const uint8_t *bytes, size_t bytes_len, uint32_t number, size_t *place,
+                              size_t *length);
+
+/*
+ * Writes the INDEX of elements of these lengths, joined in `data`, to the start of out.
+ * 0: *length, how many bytes it has. 13: *length, how many it needs. 22, 23 or 24: no place.
+ */
+uint32_t ighzamrel_write_index(const uint32_t *lengths, size_t lengths_len, const uint8_t *data, size_t data_len,
+                               uint8_t *out, size_t out_len, size_t *length);
+
+/*
+ * Writes the flat string of a charstring to the start of out. `globals` and `locals` are the two subroutine
+ * INDEXes, 00 00 where a font has none; `budget` is how many tokens may be run, through every call.
+ * 0: *length, how many bytes the flat string has, and *tokens, how many tokens were run. 1 or 2: no place.
+ * 3 to 12: *tokens, with the token that is refused but at 3. 13: *length, how many bytes are needed, and *tokens.
+ */
+uint32_t ighzamrel_flatten(const uint8_t *charstring, size_t charstring_len, const uint8_t *globals,
+                           size_t globals_len, const uint8_t *locals, size_t locals_len, uint32_t profile,
+                           uint32_t budget, uint8_t *out, size_t out_len, size_t *length, uint32_t *tokens);
+
+#ifdef __cplusplus
+}
+#endif
+
+#endif

@@ -1,0 +1,247 @@
+/*
+ * Calls each function of include/ighzamrel.h on document 01's examples, and looks at the answer, at each place and
+ * at every lent byte, also where nothing may change.
+ */
+#include "ighzamrel.h"
+
+#include <stdio.h>
+#include <stdlib.h>
+#include <string.h>
+
+static unsigned checks;
+
+static void expect(int holds, int line)
+{
+    checks++;
+    if (!holds) {
+        fprintf(stderr, "smoke: tools/c/smoke.c:%d does not hold\n", line);
+        exit(1);
+    }
+}
+
+#define EXPECT(test) expect((test) != 0, __LINE__)
+
+/* What the places and the room hold before each call. */
+enum { UNTOUCHED = 77, BLANK = 0xA5, ROOM = 32 };
+
+static uint8_t out[ROOM];
+static size_t length;
+static uint32_t tokens;
+
+static void clear(void)
+{
+    memset(out, BLANK, sizeof out);
+    length = UNTOUCHED;
+    tokens = UNTOUCHED;
+}
+
+/* Whether out starts with these bytes, and is blank behind them. */
+static int holds(const uint8_t *bytes, size_t n)
+{
+    size_t i;
+    for (i = n; i < ROOM; i++)
+        if (out[i] != BLANK)
+            return 0;
+    return memcmp(out, bytes, n) == 0;
+}
+
+static int blank(void) { return holds(out, 0); }
+
+#define BYTES(...) ((const uint8_t[]){__VA_ARGS__}), sizeof((const uint8_t[]){__VA_ARGS__})
+/* no bytes: the pointer is valid all the same */
+#define NONE ((const uint8_t[]){0}), 0
+
+static void numbers_read(const uint8_t *bytes, size_t n, uint32_t answer, uint32_t kind, int32_t value, size_t width)
+{
+    uint32_t k = UNTOUCHED;
+    int32_t v = UNTOUCHED;
+    size_t w = UNTOUCHED;
+    EXPECT(ighzamrel_read_charstring_number(bytes, n, &k, &v, &w) == answer);
+    EXPECT(k == kind && v == value && w == width);
+}
+
+static void integers_read(const uint8_t *bytes, size_t n, uint32_t answer, int32_t value, size_t width)
+{
+    int32_t v = UNTOUCHED;
+    size_t w = UNTOUCHED;
+    EXPECT(ighzamrel_read_dict_integer(bytes, n, &v, &w) == answer);
+    EXPECT(v == value && w == width);
+}
+
+static void number_written(uint32_t kind, int32_t value, const uint8_t *bytes, size_t n)
+{
+    clear();
+    EXPECT(ighzamrel_write_charstring_number(kind, value, out, ROOM, &length) == IGHZAMREL_ACCEPTED);
+    EXPECT(length == n && holds(bytes, n));
+    clear();
+    EXPECT(ighzamrel_write_charstring_number(kind, value, out, n - 1, &length) == IGHZAMREL_SHORT);
+    EXPECT(length == n && blank());
+}
+
+static void integer_written(int32_t value, const uint8_t *bytes, size_t n)
+{
+    clear();
+    EXPECT(ighzamrel_write_dict_integer(value, out, ROOM, &length) == IGHZAMREL_ACCEPTED);
+    EXPECT(length == n && holds(bytes, n));
+    clear();
+    EXPECT(ighzamrel_write_dict_integer(value, out, n - 1, &length) == IGHZAMREL_SHORT);
+    EXPECT(length == n && blank());
+}
+
+static void numbers(void)
+{
+    numbers_read(BYTES(0x20), 0, IGHZAMREL_INTEGER, -107, 1);
+    numbers_read(BYTES(0xFA, 0xFF, 0x0E), 0, IGHZAMREL_INTEGER, 1131, 2);
+    numbers_read(BYTES(0x1C, 0xFB, 0x94), 0, IGHZAMREL_INTEGER, -1132, 3);
+    numbers_read(BYTES(0xFF, 0xFF, 0x95, 0x00, 0x00), 0, IGHZAMREL_FIXED, -107 * 65536, 5);
+    numbers_read(NONE, 4, UNTOUCHED, UNTOUCHED, UNTOUCHED);
+    numbers_read(BYTES(0xFF, 0x00), 4, UNTOUCHED, UNTOUCHED, UNTOUCHED);
+    numbers_read(BYTES(0x1D, 0x00, 0x00, 0x80, 0x00), 6, UNTOUCHED, UNTOUCHED, UNTOUCHED);
+
+    integers_read(BYTES(0x1D, 0x00, 0x00, 0x80, 0x00), 0, 32768, 5);
+    integers_read(BYTES(0xFE, 0xFF), 0, -1131, 2);
+    integers_read(BYTES(0x1D, 0x00), 4, UNTOUCHED, UNTOUCHED);
+    integers_read(BYTES(0xFF, 0x00, 0x01, 0x00, 0x00), 6, UNTOUCHED, UNTOUCHED);
+
+    number_written(0, 107, BYTES(0xF6));
+    number_written(0, 108, BYTES(0xF7, 0x00));
+    number_written(0, -1131, BYTES(0xFE, 0xFF));
+    number_written(0, 32767, BYTES(0x1C, 0x7F, 0xFF));
+    number_written(1, 65536, BYTES(0xFF, 0x00, 0x01, 0x00, 0x00));
+    number_written(2, 65536, BYTES(0xFF, 0x00, 0x01, 0x00, 0x00));
+    clear();
+    EXPECT(ighzamrel_write_charstring_number(0, 32768, out, ROOM, &length) == IGHZAMREL_OUTSIDE_16_BITS);
+    EXPECT(length == UNTOUCHED && blank());
+
+    integer_written(-108, BYTES(0xFB, 0x00));
+    integer_written(32768, BYTES(0x1D, 0x00, 0x00, 0x80, 0x00));
+}
+
+static void call_index(uint32_t kind, int32_t value, uint32_t profile, uint32_t answer, int32_t index)
+{
+    int32_t i = UNTOUCHED;
+    EXPECT(ighzamrel_call_index(kind, value, profile, &i) == answer);
+    EXPECT(i == index);
+}
+
+static void call_indexes(void)
+{
+    call_index(IGHZAMREL_INTEGER, -107, IGHZAMREL_PLAIN, 0, -107);
+    call_index(IGHZAMREL_FIXED, 0x012C0001, IGHZAMREL_PLAIN, 0, 300);
+    call_index(IGHZAMREL_FIXED, 0x012C0001, IGHZAMREL_STRICT, 7, UNTOUCHED);
+    call_index(IGHZAMREL_FIXED, 0x00FF0001, IGHZAMREL_PLAIN, 7, UNTOUCHED);
+    call_index(IGHZAMREL_FIXED, 0x7FFFFFFF, IGHZAMREL_PLAIN, 0, 32768);
+}
+
+/* the local INDEX of document 01's rows, and a font's list that has no entries */
+static const uint8_t L[] = {0x00, 0x01, 0x01, 0x01, 0x05, 0x8C, 0x8D, 0x15, 0x0B};
+static const uint8_t EMPTY[] = {0x00, 0x00};
+
+static void index_read(const uint8_t *bytes, size_t n, uint32_t answer, uint32_t count, size_t taken)
+{
+    uint32_t c = UNTOUCHED;
+    size_t t = UNTOUCHED;
+    EXPECT(ighzamrel_read_index(bytes, n, &c, &t) == answer);
+    EXPECT(c == count && t == taken);
+}
+
+static void entry_read(uint32_t number, size_t n, uint32_t answer, size_t place, size_t size)
+{
+    size_t p = UNTOUCHED, s = UNTOUCHED;
+    EXPECT(ighzamrel_read_entry(L, n, number, &p, &s) == answer);
+    EXPECT(p == place && s == size);
+}
+
+static void index_written(const uint32_t *lengths, size_t n, const uint8_t *data, size_t size, size_t room,
+                          uint32_t answer, size_t given)
+{
+    static const uint8_t whole[] = {0x00, 0x02, 0x01, 0x01, 0x02, 0x02, 0x0E};
+    clear();
+    EXPECT(ighzamrel_write_index(lengths, n, data, size, out, room, &length) == answer);
+    EXPECT(length == given && (answer == 0 ? holds(whole, sizeof whole) : blank()));
+}
+
+static void indexes(void)
+{
+    static const uint32_t lengths[] = {1, 0};
+    static const uint8_t data[] = {0x0E};
+    index_read(L, sizeof L, 0, 1, 9);
+    index_read(EMPTY, sizeof EMPTY, 0, 0, 2);
+    index_read(NONE, 20, UNTOUCHED, UNTOUCHED);
+    index_read(BYTES(0x00, 0x01, 0x05), 21, UNTOUCHED, UNTOUCHED);
+    entry_read(0, sizeof L, 0, 5, 4);
+    entry_read(0, sizeof L - 1, 20, UNTOUCHED, UNTOUCHED);
+    entry_read(1, sizeof L, 25, UNTOUCHED, UNTOUCHED);
+    index_written(lengths, 2, data, 1, ROOM, 0, 7);
+    index_written(lengths, 2, data, 1, 7, 0, 7);
+    index_written(lengths, 2, data, 1, 6, 13, 7);
+    index_written(lengths, 2, data, 0, ROOM, 24, UNTOUCHED);
+}
+
+/* A flattening by these lists, with what it must answer; `flat` is NULL where it is refused. */
+struct row {
+    const uint8_t *charstring;
+    size_t charstring_len;
+    const uint8_t *locals;
+    size_t locals_len;
+    uint32_t profile, budget;
+    size_t room;
+    uint32_t answer;
+    size_t length;
+    uint32_t tokens;
+    const uint8_t *flat;
+};
+
+static void flattening(void)
+{
+    static const uint8_t deep[] = {0x00, 0x01, 0x01, 0x01, 0x03, 0x20, 0x0A};
+    static const uint8_t twice[] = {0x00, 0x02, 0x01, 0x01, 0x02, 0x04, 0x0A, 0x8C, 0x16};
+    static const uint8_t called[] = {0x8C, 0x8D, 0x15, 0x0E};
+    static const uint8_t fixed[] = {0xFF, 0xFF, 0x95, 0x00, 0x00, 0x0A, 0x0E};
+    static const uint8_t pair[] = {0x8C, 0x16, 0x0E};
+    static const uint8_t short_form[] = {0x90, 0x0E};
+    static const uint8_t masked[] = {0x8B, 0x8C, 0x01, 0x8B, 0x8C, 0x13, 0x80, 0x0E};
+    const struct row rows[] = {
+        {NONE, EMPTY, 2, 0, 0, ROOM, 0, 0, 0, called},
+        {BYTES(0x20, 0x0A, 0x0E), L, 9, 0, 1000, ROOM, 0, 4, 7, called},
+        {BYTES(0x20, 0x0A, 0x0E), L, 9, 1, 7, 4, 0, 4, 7, called},
+        {BYTES(0x20, 0x0A, 0x0E), L, 9, 0, 1000, 3, 13, 4, 7, NULL},
+        {BYTES(0x20, 0x0A, 0x0E), L, 9, 0, 6, ROOM, 3, UNTOUCHED, 6, NULL},
+        {fixed, sizeof fixed, L, 9, 0, 1000, ROOM, 0, 4, 7, called},
+        {fixed, sizeof fixed, L, 9, 1, 1000, ROOM, 0, 4, 7, called},
+        {BYTES(0xFF, 0x00, 0xFF, 0x00, 0x01, 0x0A), L, 9, 0, 1000, ROOM, 7, UNTOUCHED, 2, NULL},
+        {BYTES(0x1C, 0x00, 0x05, 0x0E), EMPTY, 2, 0, 1000, ROOM, 0, 2, 2, short_form},
+        {BYTES(0x21, 0x20, 0x0A, 0x0E), twice, 9, 0, 1000, ROOM, 0, 3, 7, pair},
+        {masked, sizeof masked, EMPTY, 2, 0, 1000, ROOM, 0, 8, 7, masked},
+        {BYTES(0x8B, 0x8B, 0x8B, 0x8B, 0x0E), EMPTY, 2, 0, 1000, ROOM, 12, UNTOUCHED, 5, NULL},
+        {BYTES(0x8B, 0x8C, 0x01, 0x13, 0x80, 0x20, 0x13, 0x80, 0x0A), L, 9, 0, 1000, ROOM, 8, UNTOUCHED, 7, NULL},
+        {BYTES(0x20, 0x0A), deep, 7, 0, 1000, ROOM, 10, UNTOUCHED, 128, NULL},
+        {BYTES(0x20, 0x0A), deep, 7, 1, 1000, ROOM, 10, UNTOUCHED, 22, NULL},
+        {BYTES(0x20, 0x0A), deep, 7, 0, 127, ROOM, 3, UNTOUCHED, 127, NULL},
+        {BYTES(0x00), EMPTY, 2, 0, 1000, ROOM, 6, UNTOUCHED, 1, NULL},
+        {BYTES(0x20, 0x0A, 0x0E), EMPTY, 2, 0, 1000, ROOM, 9, UNTOUCHED, 2, NULL},
+        {BYTES(0x0E), NONE, 0, 1000, ROOM, 2, UNTOUCHED, UNTOUCHED, NULL},
+    };
+    size_t i;
+    for (i = 0; i < sizeof rows / sizeof rows[0]; i++) {
+        const struct row *r = &rows[i];
+        clear();
+        EXPECT(ighzamrel_flatten(r->charstring, r->charstring_len, EMPTY, sizeof EMPTY, r->locals, r->locals_len,
+                                 r->profile, r->budget, out, r->room, &length, &tokens) == r->answer);
+        EXPECT(length == r->length && tokens == r->tokens);
+        EXPECT(r->flat == NULL ? blank() : holds(r->flat, r->length));
+    }
+    clear();
+    EXPECT(ighzamrel_flatten(L, 0, L, 8, EMPTY, 1, 0, 1000, out, ROOM, &length, &tokens) == IGHZAMREL_BAD_GLOBALS);
+    EXPECT(length == UNTOUCHED && tokens == UNTOUCHED && blank());
+}
+
+int main(void)
+{
+    numbers();
+    call_indexes();
+    indexes();
+    flattening();
+    printf("smoke: nine functions, %u checks hold\n", checks);
+    return 0;
+}

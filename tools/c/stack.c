@@ -1,0 +1,147 @@
+/*
+ * How much stack each function of include/ighzamrel.h uses: it is called on a thread whose stack was painted before,
+ * and the lowest byte that lost its paint is counted from the caller's frame. Flattening goes as deep as its profile
+ * lets it, each string with hints, a mask, a Fixed and a call by a Fixed index.
+ */
+#define _DEFAULT_SOURCE
+#include "ighzamrel.h"
+
+#include <pthread.h>
+#include <stdio.h>
+#include <stdlib.h>
+#include <string.h>
+#include <sys/mman.h>
+
+enum { STACK = 1 << 20, PAINT = 0xA5, ROOM = 4096 };
+
+static uint8_t *stack;
+static void (*work)(void);
+static long depth;
+static uint32_t answer;
+
+static uint8_t charstring[64], locals[4096], out[ROOM];
+static size_t charstring_len, locals_len, place, length;
+static uint32_t kind, tokens;
+static int32_t value;
+static const uint8_t globals[] = {0, 0};
+static const uint32_t lengths[] = {3, 4};
+
+/* One string of the chain, which calls entry `next`, or ends the glyph where next is negative. */
+static size_t put_string(uint8_t *to, int next)
+{
+    static const uint8_t tokens_before[] = {0xFF, 0x00, 0x01, 0x00, 0x00, 0x8B, 0x12, 0x13, 0x80};
+    size_t n = sizeof tokens_before;
+    memcpy(to, tokens_before, n);
+    if (next >= 0) {
+        int index = next - 107; /* the bias of a list of fewer than 1240 */
+        to[n++] = 0xFF;
+        to[n++] = (uint8_t)((unsigned)index >> 8);
+        to[n++] = (uint8_t)index;
+        to[n++] = 0;
+        to[n++] = 0;
+        to[n++] = 0x0A;
+    } else {
+        to[n++] = 0x0E;
+    }
+    return n;
+}
+
+/* A charstring and a list of `entries`, each of which calls the next. */
+static void chain(int entries)
+{
+    uint8_t *offset = locals + 3;
+    uint8_t *data = offset + 2 * (entries + 1);
+    size_t at = 0;
+    int i;
+    locals[0] = 0;
+    locals[1] = (uint8_t)entries;
+    locals[2] = 2;
+    for (i = 0; i <= entries; i++) {
+        *offset++ = (uint8_t)((at + 1) >> 8);
+        *offset++ = (uint8_t)(at + 1);
+        if (i < entries)
+            at += put_string(data + at, i + 1 < entries ? i + 1 : -1);
+    }
+    locals_len = (size_t)(data - locals) + at;
+    charstring_len = put_string(charstring, 0);
+}
+
+static void flatten(uint32_t profile)
+{
+    answer = ighzamrel_flatten(charstring, charstring_len, globals, sizeof globals, locals, locals_len, profile, 1000000,
+                               out, ROOM, &length, &tokens);
+}
+
+static void flatten_plain(void) { flatten(IGHZAMREL_PLAIN); }
+static void flatten_strict(void) { flatten(IGHZAMREL_STRICT); }
+static void read_charstring_number(void)
+{
+    answer = ighzamrel_read_charstring_number(charstring, charstring_len, &kind, &value, &length);
+}
+static void read_dict_integer(void) { answer = ighzamrel_read_dict_integer(charstring + 5, 1, &value, &length); }
+static void write_charstring_number(void) { answer = ighzamrel_write_charstring_number(1, -70000, out, ROOM, &length); }
+static void write_dict_integer(void) { answer = ighzamrel_write_dict_integer(-70000, out, ROOM, &length); }
+static void call_index(void) { answer = ighzamrel_call_index(1, -0x7FFFFFFF, 0, &value); }
+static void read_index(void) { answer = ighzamrel_read_index(locals, locals_len, &kind, &length); }
+static void read_entry(void) { answer = ighzamrel_read_entry(locals, locals_len, 1, &place, &length); }
+static void write_index(void) { answer = ighzamrel_write_index(lengths, 2, charstring, 7, out, ROOM, &length); }
+
+/* Looks before it returns: what ends a thread would leave traces of its own. */
+static void *call(void *unused)
+{
+    volatile uint8_t mark = 0;
+    const uint8_t *low = stack;
+    (void)unused;
+    work();
+    while (*low == PAINT)
+        low++;
+    depth = (long)((const uint8_t *)&mark - low);
+    return NULL;
+}
+
+static void fail(const char *what)
+{
+    fprintf(stderr, "stack: %s\n", what);
+    exit(1);
+}
+
+/* Prints how deep the function touched the stack. A first call, on the main thread, has the linker's work behind it. */
+static void measure(const char *name, void (*function)(void))
+{
+    pthread_attr_t attributes;
+    pthread_t thread;
+    work = function;
+    work();
+    answer = 99;
+    memset(stack, PAINT, STACK);
+    if (pthread_attr_init(&attributes) || pthread_attr_setstack(&attributes, stack, STACK)
+        || pthread_create(&thread, &attributes, call, NULL) || pthread_join(thread, NULL))
+        fail("no thread");
+    pthread_attr_destroy(&attributes);
+    if (answer != 0)
+        fail(name);
+    printf("%-36s %6ld bytes\n", name, depth);
+}
+
+int main(void)
+{
+    stack = mmap(NULL, STACK, PROT_READ | PROT_WRITE, MAP_PRIVATE | MAP_ANONYMOUS, -1, 0);
+    if (stack == MAP_FAILED)
+        fail("no memory");
+    chain(63);
+    measure("flatten, plain, 64 strings deep", flatten_plain);
+    if (tokens != 63 * 6 + 5)
+        fail("the chain is not 64 deep");
+    chain(10);
+    measure("flatten, plain, 11 strings deep", flatten_plain);
+    measure("flatten, strict, 11 strings deep", flatten_strict);
+    measure("read_charstring_number", read_charstring_number);
+    measure("read_dict_integer", read_dict_integer);
+    measure("write_charstring_number", write_charstring_number);
+    measure("write_dict_integer", write_dict_integer);
+    measure("call_index", call_index);
+    measure("read_index", read_index);
+    measure("read_entry", read_entry);
+    measure("write_index", write_index);
+    return 0;
+}
