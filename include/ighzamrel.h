@@ -11,7 +11,7 @@
  * first *length bytes of it.
  *
  * Pointers. A slice is a pointer, `x`, and then how many elements it has, `x_len`. Every pointer is valid
- * and aligned, and none is null, also where the length is 0. `out` and the places overlap nothing: no
+ * for its length and aligned, and none is null, also where the length is 0. `out` and the places overlap nothing: no
  * input, and not each other. Inputs may overlap each other.
  *
  * There is no state, nothing is allocated, and nothing is called but memset; so any threads may call at

@@ -1,5 +1,4 @@
 -- What a C function answers, and what it leaves at the places that were lent to it.
-use mathlib.Core.Path.{_≡_, sym, ap, _∙_}
 use Prim.Native.Nat.{ℕ}
 use mathlib.Core.Bool.{Bool, true, false, not, cond}
 use mathlib.Core.List.{List, [], _∷_}
@@ -41,14 +40,6 @@ told n x = record { number = n; place = x }
 unfoldable pub tell : {A : Type 0} → Answer A → A → Told A
 tell (accepted x) old = told 0 x
 tell (refused n v) old = told n old
-
-pub tell-accepted : {A : Type 0} (a : Answer A) (x old : A) → accepted x ≡ a → told 0 x ≡ tell a old
-unfolding tell
-tell-accepted a x old e = ap (λ b. tell b old) e
-
-pub tell-refused : {A : Type 0} (a : Answer A) (old : A) (n : ℕ) (v : List ℕ) → refused n v ≡ a → told n old ≡ tell a old
-unfolding tell
-tell-refused a old n v e = ap (λ b. tell b old) e
 
 -- what was accepted, as it lies at the places
 abbrev pub laid : {A B : Type 0} → (A → B) → Answer A → Answer B
@@ -98,12 +89,3 @@ tellLength o old = tellWritten lengthFrom (o .answer) (o .left) old
 
 abbrev pub tellFlattening : Flat → Flattening → Written Flattening
 tellFlattening o old = tellWritten sizesFrom (o .answer) (o .left) old
-
--- what is told of an outcome whose answer is known
-pub tell-known : {E O A W : Type 0} (tells : O → A → W) (says : E → List ℕ → O) {r w : E} {o : O} (left : List ℕ) (old : A)
-    → r ≡ w → says r left ≡ o → tells (says w left) old ≡ tells o old
-tell-known tells says left old e p = ap (λ x. tells x old) (ap (λ x. says x left) (sym e) ∙ p)
-
-pub tell-length : {E : Type 0} (answer : E → Answer ℕ) {r w : E} {o : Outcome} (left : List ℕ) (old : ℕ)
-    → r ≡ w → record { answer = answer r; left = left } ≡ o → tellLength (record { answer = answer w; left = left }) old ≡ tellLength o old
-tell-length answer left old e p = tell-known tellLength (λ x l. record { answer = answer x; left = l }) left old e p

@@ -1,5 +1,6 @@
 -- `ighzamrel_flatten` tells what `flatten` answers, and leaves what it leaves. Assumes nothing.
-use Rattle.ighzamrel.specs.Told.{Written, tellWritten, sizesFrom, tellFlattening, tell-known}
+use Rattle.ighzamrel.specs.Told.{Written, tellWritten, sizesFrom, tellFlattening}
+use Rattle.ighzamrel.specs.ToldLaws.{tell-known}
 use Rattle.reading.specs.Answers.{Flattening, flattened, flattening}
 use Rattle.reading.specs.Rules.{rulesOf}
 use Rattle.reading.specs.declared.Flattened.{Flattened}

@@ -1,5 +1,5 @@
 -- `ighzamrel_read_index` tells what `read_index` answers: each return is that answer's case, and the two places hold what it gives or stay. Assumes nothing.
-use Rattle.ighzamrel.specs.Told.{tell-accepted, tell-refused}
+use Rattle.ighzamrel.specs.ToldLaws.{tell-accepted, tell-refused}
 use Rattle.index.specs.Index.{indexRead}
 use mathlib.Core.Path.{sym, ap, _∙_}
 use borrow.Author.Needs.{needs}

@@ -1,4 +1,5 @@
-use Rattle.ighzamrel.specs.Told.{nonzero, operandOf, told, tell-accepted, tell-refused}
+use Rattle.ighzamrel.specs.Told.{nonzero, operandOf, told}
+use Rattle.ighzamrel.specs.ToldLaws.{tell-accepted, tell-refused}
 use Rattle.number.proofs.Border.{moved}
 use Rattle.number.specs.Call.{callIndex, wholeOf}
 use mathlib.Core.Path.{_≡_, refl, sym, ap, _∙_}

@@ -1,5 +1,6 @@
 -- `ighzamrel_read_charstring_number` tells what `read_charstring_number` answers: the three places hold what it gives, or stay. Assumes nothing.
-use Rattle.ighzamrel.specs.Told.{NumberPlaces, numberPlaces, laid, tell-accepted, tell-refused}
+use Rattle.ighzamrel.specs.Told.{NumberPlaces, numberPlaces, laid}
+use Rattle.ighzamrel.specs.ToldLaws.{tell-accepted, tell-refused}
 use Rattle.number.proofs.Border.{moved}
 use Rattle.number.specs.Answer.{Answer, accepted}
 use Rattle.number.specs.Number.{numberRead}

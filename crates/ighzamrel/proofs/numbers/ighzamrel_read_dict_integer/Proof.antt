@@ -1,5 +1,6 @@
 -- `ighzamrel_read_dict_integer` tells what `read_dict_integer` answers: the two places hold what it gives, or stay. Assumes nothing.
-use Rattle.ighzamrel.specs.Told.{IntegerPlaces, integerPlaces, laid, tell-accepted, tell-refused}
+use Rattle.ighzamrel.specs.Told.{IntegerPlaces, integerPlaces, laid}
+use Rattle.ighzamrel.specs.ToldLaws.{tell-accepted, tell-refused}
 use Rattle.number.proofs.Border.{moved}
 use Rattle.number.specs.Answer.{Answer, accepted}
 use Rattle.number.specs.Number.{numberRead}

@@ -1,5 +1,6 @@
 -- `ighzamrel_write_charstring_number` tells what `write_charstring_number` answers, and leaves what it leaves. Assumes nothing.
-use Rattle.ighzamrel.specs.Told.{operandOf, tellWritten, lengthFrom, tell-length}
+use Rattle.ighzamrel.specs.Told.{operandOf, tellWritten, lengthFrom}
+use Rattle.ighzamrel.specs.ToldLaws.{tell-length}
 use Rattle.number.proofs.Border.{moved}
 use Rattle.number.specs.Number.{charstringRows}
 use Rattle.number.specs.declared.Operand.{Operand}

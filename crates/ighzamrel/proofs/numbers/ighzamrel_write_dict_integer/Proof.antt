@@ -1,5 +1,6 @@
 -- `ighzamrel_write_dict_integer` tells what `write_dict_integer` answers, and leaves what it leaves. Assumes nothing.
-use Rattle.ighzamrel.specs.Told.{tellWritten, lengthFrom, tell-length}
+use Rattle.ighzamrel.specs.Told.{tellWritten, lengthFrom}
+use Rattle.ighzamrel.specs.ToldLaws.{tell-length}
 use Rattle.number.proofs.Border.{moved}
 use Rattle.number.specs.Number.{dictRows}
 use Rattle.number.specs.Written.{integer, write, integerWritten}
