@@ -11,7 +11,7 @@ use Rattle.reading.specs.Answers.{Flattening, Outcome as Flat}
 use Rattle.reading.specs.declared.Profile.{Profile}
 use Rattle.reading.specs.declared.Profile.the-variants.{Plain, Strict}
 
--- ---- C's numbers
+-- ---- C's numbers: a `kind` is 0 for an integer, else a Fixed; a `profile` is 0 for plain, else strict
 
 abbrev pub nonzero : ℕ → Bool
 nonzero n = not (eqb n 0)
