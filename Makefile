@@ -3,7 +3,7 @@ SECONDS = 60
 SOURCES = ../shared
 export SOURCES
 
-.PHONY: test list fixed bench-index clean
+.PHONY: test list fixed bench clean
 
 test:
 	@tools/test $(SECONDS)
@@ -19,9 +19,9 @@ fixed:
 	tools/oracle/build fixed
 	target/oracle/fixed
 
-# reading an INDEX of 30,000 entries, the proved functions against the Rust
-bench-index:
-	bench/index/run
+# speed, the proved functions against the Rust; FONTS names folders to look for fonts in, else Debian's are searched
+bench:
+	bench/run $(FONTS)
 
 clean:
 	rm -rf target

@@ -1,9 +1,10 @@
 //! Reading an INDEX of 30,000 entries, its entries, and whether it is well formed: ours and the
 //! unchanged Rust in one process, in turns, the best of many passes.
 
+mod timing;
+
 use std::hint::black_box;
 use std::process::ExitCode;
-use std::time::Instant;
 use subsetter::cff::index::{parse_index, Index};
 use subsetter::read::Reader;
 
@@ -25,7 +26,7 @@ unsafe extern "C" {
 }
 
 const ENTRIES: u32 = 30_000;
-const PASSES: u32 = 400;
+const PASSES: u32 = 200;
 
 /// How often a pass reads the whole INDEX, which takes a few nanoseconds.
 const READS: u32 = 10_000;
@@ -34,15 +35,7 @@ const READS: u32 = 10_000;
 const LISTS: [(u8, u32); 4] = [(1, 254), (2, 60_000), (3, 600_000), (4, 18_000_000)];
 
 fn main() -> ExitCode {
-    let passes = match std::env::args().nth(1).map(|word| word.parse()) {
-        None => PASSES,
-        Some(Ok(passes)) if passes > 0 => passes,
-        _ => {
-            eprintln!("usage: bench [PASSES]");
-            return ExitCode::FAILURE;
-        }
-    };
-    println!("{ENTRIES} entries; best of {passes} passes, the two sides in turns; nanoseconds");
+    println!("{ENTRIES} entries; best of {PASSES} passes, the two sides in turns; nanoseconds");
     println!("Neither side writes to a buffer, so that none is cleared. The Rust may be inlined here, ours is called.");
     println!();
     println!("| offset size | what | ours | Rust | Rust / ours |");
@@ -53,7 +46,7 @@ fn main() -> ExitCode {
             eprintln!("offset size {size}: {difference}");
             return ExitCode::FAILURE;
         }
-        measure(size, &bytes, passes);
+        measure(size, &bytes);
     }
     ExitCode::SUCCESS
 }
@@ -91,7 +84,7 @@ fn compare(bytes: &[u8]) -> Result<(), String> {
     Ok(())
 }
 
-fn measure(size: u8, bytes: &[u8], passes: u32) {
+fn measure(size: u8, bytes: &[u8]) {
     let numbers = shuffled();
     let index = parsed(bytes);
 
@@ -99,7 +92,6 @@ fn measure(size: u8, bytes: &[u8], passes: u32) {
         size,
         "read, a call",
         READS,
-        passes,
         || {
             for _ in 0..READS {
                 black_box(read(black_box(bytes)));
@@ -116,35 +108,20 @@ fn measure(size: u8, bytes: &[u8], passes: u32) {
             black_box(entry(black_box(bytes), i));
         }
     };
-    row(
-        size,
-        "an entry, from the bytes",
-        ENTRIES,
-        passes,
-        each_entry,
-        || {
-            for &i in &numbers {
-                black_box(parsed(black_box(bytes)).get(i));
-            }
-        },
-    );
-    row(
-        size,
-        "an entry, where the Rust has read the INDEX before",
-        ENTRIES,
-        passes,
-        each_entry,
-        || {
-            for &i in &numbers {
-                black_box(black_box(&index).get(i));
-            }
-        },
-    );
+    row(size, "an entry, from the bytes", ENTRIES, each_entry, || {
+        for &i in &numbers {
+            black_box(parsed(black_box(bytes)).get(i));
+        }
+    });
+    row(size, "an entry, where the Rust has read the INDEX before", ENTRIES, each_entry, || {
+        for &i in &numbers {
+            black_box(black_box(&index).get(i));
+        }
+    });
     row(
         size,
         "well formed, an entry",
         ENTRIES,
-        passes,
         || {
             black_box(formed(black_box(bytes)));
         },
@@ -154,25 +131,10 @@ fn measure(size: u8, bytes: &[u8], passes: u32) {
     );
 }
 
-fn row(size: u8, what: &str, things: u32, passes: u32, ours: impl Fn(), rust: impl Fn()) {
-    let (mut our_best, mut rust_best) = (f64::MAX, f64::MAX);
-    for _ in 0..passes {
-        our_best = our_best.min(timed(&ours));
-        rust_best = rust_best.min(timed(&rust));
-    }
+fn row(size: u8, what: &str, things: u32, ours: impl Fn(), rust: impl Fn()) {
+    let [ours, rust] = timing::best_of(PASSES, [&mut || ours(), &mut || rust()]);
     let each = |nanoseconds: f64| nanoseconds / f64::from(things);
-    println!(
-        "| {size} | {what} | {:.2} | {:.2} | {:.2} |",
-        each(our_best),
-        each(rust_best),
-        rust_best / our_best
-    );
-}
-
-fn timed(pass: &impl Fn()) -> f64 {
-    let start = Instant::now();
-    pass();
-    start.elapsed().as_nanos() as f64
+    println!("| {size} | {what} | {:.2} | {:.2} | {:.2} |", each(ours), each(rust), rust / ours);
 }
 
 /// Every entry's number once, in an order that no prefetcher follows.

@@ -1,0 +1,155 @@
+//! Flattening the glyphs of real fonts, and strings that are made to cost: ours and the unchanged Rust in one
+//! process, in turns, the best of many passes.
+
+#[path = "../tools/oracle/fonts.rs"]
+mod fonts;
+mod hostile;
+mod sides;
+mod timing;
+
+use fonts::{Font, Glyph};
+use sides::{ours, rust, Lists};
+use std::hint::black_box;
+use std::path::PathBuf;
+use std::process::ExitCode;
+use timing::best_of;
+
+const PASSES: u32 = 15;
+
+/// Of a font at most so many glyphs are timed, spread evenly.
+const MOST_GLYPHS: usize = 2000;
+
+/// More than any glyph of a font needs.
+const AMPLE: u32 = 10_000_000;
+const ROOM: usize = 1 << 20;
+
+const INTRODUCTION: &str = "\
+Best of 15 passes, the two sides in turns; nanoseconds. The room that is lent to ours is one buffer, cleared once; the Rust allocates its own.
+The Rust's lists are parsed once a font and not timed. Ours looks at the lists' bytes at each call: that check is the flattening of an empty
+charstring with the same lists, and is told apart.
+";
+
+fn main() -> ExitCode {
+    let folders: Vec<PathBuf> = std::env::args_os().skip(1).map(PathBuf::from).collect();
+    println!("{INTRODUCTION}");
+    if let Err(why) = of_fonts(&folders) {
+        eprintln!("{why}");
+        return ExitCode::FAILURE;
+    }
+    println!();
+    hostile::print();
+    ExitCode::SUCCESS
+}
+
+/// Nanoseconds for all timed glyphs.
+#[derive(Default)]
+struct Times {
+    glyphs: usize,
+    tokens: u64,
+    whole: f64,
+    check: f64,
+    rust: f64,
+}
+
+impl Times {
+    fn add(&mut self, other: &Times) {
+        self.glyphs += other.glyphs;
+        self.tokens += other.tokens;
+        self.whole += other.whole;
+        self.check += other.check;
+        self.rust += other.rust;
+    }
+
+    fn row(&self, name: &str) {
+        let each = |time: f64| time / self.glyphs as f64;
+        let ours = self.whole - self.check;
+        println!(
+            "| {name} | {} | {} | {:.0} | {:.0} | {:.2} | {:.2} | {:.0} | {:.0} | {:.2} |",
+            self.glyphs,
+            self.tokens,
+            each(ours),
+            each(self.rust),
+            self.rust / ours,
+            ours / self.tokens as f64,
+            each(self.check),
+            each(self.whole),
+            self.rust / self.whole,
+        );
+    }
+}
+
+fn of_fonts(folders: &[PathBuf]) -> Result<(), String> {
+    println!("| font | glyphs | tokens | ours, a glyph | the Rust | the Rust / ours | ours, a token | the check | ours with the check | the Rust / ours with the check |");
+    println!("|---|---|---|---|---|---|---|---|---|---|");
+    let mut all = Times::default();
+    for path in fonts::files(folders) {
+        let found = fonts::read(&path).map_err(|e| format!("{}: {e}", path.display()))?;
+        for font in &found {
+            let times = of_font(font)?;
+            times.row(&font.name);
+            all.add(&times);
+        }
+    }
+    if all.glyphs == 0 {
+        return Err(format!(
+            "there are no CFF fonts here; name a folder, or install some: apt-get install {}",
+            fonts::PACKAGES
+        ));
+    }
+    all.row("all");
+    Ok(())
+}
+
+fn of_font(font: &Font) -> Result<Times, String> {
+    let mut lists: Vec<(&[u8], Lists)> = Vec::new();
+    let mut timed: Vec<(Glyph, usize)> = Vec::new();
+    let mut out = vec![0; ROOM];
+    let mut tokens = 0;
+    let step = font.glyphs().count().div_ceil(MOST_GLYPHS).max(1);
+    for glyph in font.glyphs().step_by(step) {
+        let known = lists.iter().position(|(locals, _)| locals.as_ptr() == glyph.locals.as_ptr());
+        let which = known.unwrap_or_else(|| {
+            lists.push((glyph.locals, Lists::of(&glyph)));
+            lists.len() - 1
+        });
+        let answer = ours(&glyph, AMPLE, &mut out);
+        let flat = rust(glyph.charstring, &lists[which].1);
+        match flat {
+            Some(flat) if answer.number == 0 && flat[..] == out[..answer.length] => {
+                tokens += u64::from(answer.tokens);
+                timed.push((glyph, which));
+            }
+            // what both refuse is not timed
+            None if answer.number != 0 => {}
+            _ => return Err(format!("{}: the two sides differ", font.name)),
+        }
+    }
+    let [whole, check, rust] = best_of_three(&timed, &lists, &mut out);
+    Ok(Times { glyphs: timed.len(), tokens, whole, check, rust })
+}
+
+/// Ours, the check of the lists by itself, and the Rust.
+fn best_of_three(timed: &[(Glyph, usize)], lists: &[(&[u8], Lists)], out: &mut [u8]) -> [f64; 3] {
+    let mut spare = vec![0; ROOM];
+    best_of(
+        PASSES,
+        [
+            &mut || {
+                for (glyph, _) in timed {
+                    black_box(ours(black_box(glyph), AMPLE, out));
+                }
+            },
+            &mut || {
+                for (glyph, _) in timed {
+                    let nothing = Glyph { charstring: &[], ..*glyph };
+                    black_box(ours(black_box(&nothing), AMPLE, &mut spare));
+                }
+            },
+            &mut || {
+                for (glyph, which) in timed {
+                    black_box(rust(black_box(glyph.charstring), &lists[*which].1));
+                }
+            },
+        ],
+    )
+}
