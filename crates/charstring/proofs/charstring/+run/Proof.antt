@@ -103,6 +103,17 @@ there t c = index-there _ _ _ _ _ _ _ _ _ _ _ _ (head t (c .before .before .befo
 sized : (t : ℕ) (c : run-lts.After-size-of (callees t) (run-at t) run.Post run-Inv-loop run-μ-loop) → c .size-of .result ≡ length (spelling charstringRows (unpackOf (getD (c .before .before .before .before .before .before .before .before .before .before .before .before .before .loop .stack) (c .before .before .before .before .before .before .before .before .before .before .before .before .before .loop .count - 1) 0)))
 sized t c = c .size-of .ensures ∙ ap (λ (o : Operand). length (spelling charstringRows o)) (c .before .before .before .before .before .before .before .unpack .ensures)
 
+-- what the run of the entry ensures, of the list that the call names
+ran : (t : ℕ) (c : run-lts.After-run (callees t) (run-at t) run.Post run-Inv-loop run-μ-loop)
+    → RunsTo (take (c .before .before .before .before .before .before .target .given .0 .1 .0 - c .before .before .before .before .before .before .target .given .0 .0) (drop (c .before .before .before .before .before .before .target .given .0 .0) (chosen (c .before .before .before .before .before .before .before .before .before .before .before .before .before .before .looked4 .given .0 .1 .0) (c .before .before .before .before .before .before .before .before .before .before .before .before .before .before .before .before .before .before .before .before .before .before .before .args .globals .now) (c .before .before .before .before .before .before .before .before .before .before .before .before .before .before .before .before .before .before .before .before .before .before .before .args .locals .now)))) (c .before .before .before .before .before .before .before .before .before .before .before .before .before .before .before .before .before .before .before .before .before .before .before .args .globals .now) (c .before .before .before .before .before .before .before .before .before .before .before .before .before .before .before .before .before .before .before .before .before .before .before .args .locals .now) (c .before .before .before .before .before .before .before .before .before .before .before .before .before .before .before .before .before .before .before .before .before .before .before .args .by)
+    (record { count = c .before .before .before .before .before .before .before .before .before .before .before .before .before .before .before .before .before .loop .count - 1; tail = c .before .before .before .before .before .before .before .before .before .before .before .before .before .before .before .before .before .loop .tail - 1; hints = c .before .before .before .before .before .before .before .before .before .before .before .before .before .before .before .before .before .loop .hints; mask = c .before .before .before .before .before .before .before .before .before .before .before .before .before .before .before .before .before .loop .mask; tokens = c .before .before .before .before .before .before .before .before .before .before .before .before .before .before .before .before .before .loop .tokens + 1; length = c .before .before .before .before .before .before .before .before .before .before .before .before .before .before .before .before .before .loop .end - c .before .before .before .before .size-of .result })
+    (c .before .before .before .before .before .before .before .before .before .before .before .before .before .before .before .before .before .loop .stack) (c .before .before .before .before .before .before .before .before .before .before .before .before .before .before .before .before .before .loop .out) (c .before .before .before .before .before .before .before .before .before .before .before .before .before .before .before .before .before .before .before .before .before .before .before .args .levels - 1) (c .run .result) (c .run .last .1 .1 .1 .1 .1 .0) (c .run .last .1 .1 .1 .1 .1 .1 .0)
+ran t c =
+    subst (λ (l : List ℕ). RunsTo (take (c .before .before .before .before .before .before .target .given .0 .1 .0 - c .before .before .before .before .before .before .target .given .0 .0) (drop (c .before .before .before .before .before .before .target .given .0 .0) l)) (c .before .before .before .before .before .before .before .before .before .before .before .before .before .before .before .before .before .before .before .before .before .before .before .args .globals .now) (c .before .before .before .before .before .before .before .before .before .before .before .before .before .before .before .before .before .before .before .before .before .before .before .args .locals .now) (c .before .before .before .before .before .before .before .before .before .before .before .before .before .before .before .before .before .before .before .before .before .before .before .args .by)
+    (record { count = c .before .before .before .before .before .before .before .before .before .before .before .before .before .before .before .before .before .loop .count - 1; tail = c .before .before .before .before .before .before .before .before .before .before .before .before .before .before .before .before .before .loop .tail - 1; hints = c .before .before .before .before .before .before .before .before .before .before .before .before .before .before .before .before .before .loop .hints; mask = c .before .before .before .before .before .before .before .before .before .before .before .before .before .before .before .before .before .loop .mask; tokens = c .before .before .before .before .before .before .before .before .before .before .before .before .before .before .before .before .before .loop .tokens + 1; length = c .before .before .before .before .before .before .before .before .before .before .before .before .before .before .before .before .before .loop .end - c .before .before .before .before .size-of .result })
+    (c .before .before .before .before .before .before .before .before .before .before .before .before .before .before .before .before .before .loop .stack) (c .before .before .before .before .before .before .before .before .before .before .before .before .before .before .before .before .before .loop .out) (c .before .before .before .before .before .before .before .before .before .before .before .before .before .before .before .before .before .before .before .before .before .before .before .args .levels - 1) (c .run .result) (c .run .last .1 .1 .1 .1 .1 .0) (c .run .last .1 .1 .1 .1 .1 .1 .0))
+    (c .before .before .before .before .before .before .before .before .before .before .choose .ensures) (c .run .ensures)
+
 run-loop-holds : (t : ℕ) → Of run-lts.Need-loop-holds t
 run-loop-holds t c = (refl, refl, λ rules r t₀ p. begin rules (listsOf 2 (c .before .before .before .before .before .args .globals .now) (c .before .before .before .before .before .args .locals .now)) (c .before .before .before .before .before .args .cs .now) (c .before .before .before .before .before .args .by .budget) (c .before .before .before .before .before .args .levels) (c .before .before .before .before .before .args .by .stored) t₀ (c .before .before .before .before .before .args .out .now) (c .before .before .before .before .before .args .stack .now) (c .before .before .before .before .before .args .out .now) (c .before .before .before .before .before .args .s) 0 (c .before .before .before .before .before .pre .1 .0 .stored) t₀ p)
 
@@ -248,7 +259,7 @@ run-loop-less-4 : (t : ℕ) → Of run-lts.Need-loop-less-4 t
 run-loop-less-4 t c = let f = called t (c .before .before .before .before .before .before .before .before .before .before .before .before .before) in omega (arith, f .1 .begun .ahead, f .1 .begun .inside)
 
 run-loop-again-4 : (t : ℕ) → Of run-lts.Need-loop-again-4 t
-run-loop-again-4 t c = let d = head t (c .before .before .before .before .before .before .before .before .before .before .before .before .before .before .before .before .before .before .before .before .before .before .before) in (c .before .before .before .before .before .before .before .run .kept .1 .1 .1 .1 .1 .0 ∙ c .before .before .before .before .before .before .before .before .before .before .before .before .before .before .before .before .before .before .before .before .before .before .before .before .loop .inv .0, c .before .before .before .before .before .before .before .run .kept .1 .1 .1 .1 .1 .1 .0 ∙ c .before .before .before .before .before .before .before .before .before .before .before .before .before .before .before .before .before .before .before .before .before .before .before .before .loop .inv .1, arm-back _ _ _ _ _ _ _ _ _ _ _ _ (d .turn) (c .before .before .before .before .before .before .before .before .before .before .before .before .before .before .before .before .before .before .before .before .before .looked4 .given .0 .1 .0) (c .before .before .before .before .before .before .before .before .before .before .before .before .before .before .before .before .before .before .before .before .before .looked4 .given .0 .0) (called t (c .before .before .before .before .before .before .before .before .before .before .before .before .before)) (c .before .before .before .before .before .before .before .before .before .before .before .before .before .target .given .0 .0) (c .before .before .before .before .before .before .before .before .before .before .before .before .before .target .given .0 .1 .0) (aims t (c .before .before .before .before .before .before .before .before .before .before .before .before .before)) (c .before .before .before .before .before .before .before .before .before .before .before .size-of .result) (sized t (c .before .before .before .before .before .before .before .before .before .before .before)) (c .before .before .before .before .before .before .before .run .result) _ _ (subst (λ (l : List ℕ). RunsTo (take (c .before .before .before .before .before .before .before .before .before .before .before .before .before .target .given .0 .1 .0 - c .before .before .before .before .before .before .before .before .before .before .before .before .before .target .given .0 .0) (drop (c .before .before .before .before .before .before .before .before .before .before .before .before .before .target .given .0 .0) l)) (c .before .before .before .before .before .before .before .before .before .before .before .before .before .before .before .before .before .before .before .before .before .before .before .before .before .before .before .before .before .before .args .globals .now) (c .before .before .before .before .before .before .before .before .before .before .before .before .before .before .before .before .before .before .before .before .before .before .before .before .before .before .before .before .before .before .args .locals .now) (c .before .before .before .before .before .before .before .before .before .before .before .before .before .before .before .before .before .before .before .before .before .before .before .before .before .before .before .before .before .before .args .by) (record { count = c .before .before .before .before .before .before .before .before .before .before .before .before .before .before .before .before .before .before .before .before .before .before .before .before .loop .count - 1; tail = c .before .before .before .before .before .before .before .before .before .before .before .before .before .before .before .before .before .before .before .before .before .before .before .before .loop .tail - 1; hints = c .before .before .before .before .before .before .before .before .before .before .before .before .before .before .before .before .before .before .before .before .before .before .before .before .loop .hints; mask = c .before .before .before .before .before .before .before .before .before .before .before .before .before .before .before .before .before .before .before .before .before .before .before .before .loop .mask; tokens = c .before .before .before .before .before .before .before .before .before .before .before .before .before .before .before .before .before .before .before .before .before .before .before .before .loop .tokens + 1; length = c .before .before .before .before .before .before .before .before .before .before .before .before .before .before .before .before .before .before .before .before .before .before .before .before .loop .end - c .before .before .before .before .before .before .before .before .before .before .before .size-of .result }) (c .before .before .before .before .before .before .before .before .before .before .before .before .before .before .before .before .before .before .before .before .before .before .before .before .loop .stack) (c .before .before .before .before .before .before .before .before .before .before .before .before .before .before .before .before .before .before .before .before .before .before .before .before .loop .out) (c .before .before .before .before .before .before .before .before .before .before .before .before .before .before .before .before .before .before .before .before .before .before .before .before .before .before .before .before .before .before .args .levels - 1) (c .before .before .before .before .before .before .before .run .result) (c .before .before .before .before .before .before .before .run .last .1 .1 .1 .1 .1 .0) (c .before .before .before .before .before .before .before .run .last .1 .1 .1 .1 .1 .1 .0)) (c .before .before .before .before .before .before .before .before .before .before .before .before .before .before .before .before .before .choose .ensures) (c .before .before .before .before .before .before .before .run .ensures)) (c .before .enum-told .given .1))
+run-loop-again-4 t c = let d = head t (c .before .before .before .before .before .before .before .before .before .before .before .before .before .before .before .before .before .before .before .before .before .before .before) in (c .before .before .before .before .before .before .before .run .kept .1 .1 .1 .1 .1 .0 ∙ c .before .before .before .before .before .before .before .before .before .before .before .before .before .before .before .before .before .before .before .before .before .before .before .before .loop .inv .0, c .before .before .before .before .before .before .before .run .kept .1 .1 .1 .1 .1 .1 .0 ∙ c .before .before .before .before .before .before .before .before .before .before .before .before .before .before .before .before .before .before .before .before .before .before .before .before .loop .inv .1, arm-back _ _ _ _ _ _ _ _ _ _ _ _ (d .turn) (c .before .before .before .before .before .before .before .before .before .before .before .before .before .before .before .before .before .before .before .before .before .looked4 .given .0 .1 .0) (c .before .before .before .before .before .before .before .before .before .before .before .before .before .before .before .before .before .before .before .before .before .looked4 .given .0 .0) (called t (c .before .before .before .before .before .before .before .before .before .before .before .before .before)) (c .before .before .before .before .before .before .before .before .before .before .before .before .before .target .given .0 .0) (c .before .before .before .before .before .before .before .before .before .before .before .before .before .target .given .0 .1 .0) (aims t (c .before .before .before .before .before .before .before .before .before .before .before .before .before)) (c .before .before .before .before .before .before .before .before .before .before .before .size-of .result) (sized t (c .before .before .before .before .before .before .before .before .before .before .before)) (c .before .before .before .before .before .before .before .run .result) _ _ (ran t (c .before .before .before .before .before .before .before)) (c .before .enum-told .given .1))
 
 run-enum-told-2 : (t : ℕ) → Of run-lts.Need-enum-told-2 t
 run-enum-told-2 t c = search needs
@@ -261,7 +272,7 @@ run-same-length-2 t c = c .before .before .before .before .before .before .run .
 
 run-returns : (t : ℕ) → Of run-lts.Need-returns t
 unfolding RunsTo
-run-returns t c = let d = head t (c .before .before .before .before .before .before .before .before .before .before .before .before .before .before .before .before .before .before .before .before .before .before) in arm-passed _ _ _ _ _ _ _ _ _ _ _ _ (d .turn) (c .before .before .before .before .before .before .before .before .before .before .before .before .before .before .before .before .before .before .before .before .looked4 .given .0 .1 .0) (c .before .before .before .before .before .before .before .before .before .before .before .before .before .before .before .before .before .before .before .before .looked4 .given .0 .0) (called t (c .before .before .before .before .before .before .before .before .before .before .before .before)) (c .before .before .before .before .before .before .before .before .before .before .before .before .target .given .0 .0) (c .before .before .before .before .before .before .before .before .before .before .before .before .target .given .0 .1 .0) (aims t (c .before .before .before .before .before .before .before .before .before .before .before .before)) (c .before .before .before .before .before .before .before .before .before .before .size-of .result) (sized t (c .before .before .before .before .before .before .before .before .before .before)) (c .before .before .before .before .before .before .run .result) _ _ (subst (λ (l : List ℕ). RunsTo (take (c .before .before .before .before .before .before .before .before .before .before .before .before .target .given .0 .1 .0 - c .before .before .before .before .before .before .before .before .before .before .before .before .target .given .0 .0) (drop (c .before .before .before .before .before .before .before .before .before .before .before .before .target .given .0 .0) l)) (c .before .before .before .before .before .before .before .before .before .before .before .before .before .before .before .before .before .before .before .before .before .before .before .before .before .before .before .before .before .args .globals .now) (c .before .before .before .before .before .before .before .before .before .before .before .before .before .before .before .before .before .before .before .before .before .before .before .before .before .before .before .before .before .args .locals .now) (c .before .before .before .before .before .before .before .before .before .before .before .before .before .before .before .before .before .before .before .before .before .before .before .before .before .before .before .before .before .args .by) (record { count = c .before .before .before .before .before .before .before .before .before .before .before .before .before .before .before .before .before .before .before .before .before .before .before .loop .count - 1; tail = c .before .before .before .before .before .before .before .before .before .before .before .before .before .before .before .before .before .before .before .before .before .before .before .loop .tail - 1; hints = c .before .before .before .before .before .before .before .before .before .before .before .before .before .before .before .before .before .before .before .before .before .before .before .loop .hints; mask = c .before .before .before .before .before .before .before .before .before .before .before .before .before .before .before .before .before .before .before .before .before .before .before .loop .mask; tokens = c .before .before .before .before .before .before .before .before .before .before .before .before .before .before .before .before .before .before .before .before .before .before .before .loop .tokens + 1; length = c .before .before .before .before .before .before .before .before .before .before .before .before .before .before .before .before .before .before .before .before .before .before .before .loop .end - c .before .before .before .before .before .before .before .before .before .before .size-of .result }) (c .before .before .before .before .before .before .before .before .before .before .before .before .before .before .before .before .before .before .before .before .before .before .before .loop .stack) (c .before .before .before .before .before .before .before .before .before .before .before .before .before .before .before .before .before .before .before .before .before .before .before .loop .out) (c .before .before .before .before .before .before .before .before .before .before .before .before .before .before .before .before .before .before .before .before .before .before .before .before .before .before .before .before .before .args .levels - 1) (c .before .before .before .before .before .before .run .result) (c .before .before .before .before .before .before .run .last .1 .1 .1 .1 .1 .0) (c .before .before .before .before .before .before .run .last .1 .1 .1 .1 .1 .1 .0)) (c .before .before .before .before .before .before .before .before .before .before .before .before .before .before .before .before .choose .ensures) (c .before .before .before .before .before .before .run .ensures)) (ended-goes _ (c .enum-told2 .given .1))
+run-returns t c = let d = head t (c .before .before .before .before .before .before .before .before .before .before .before .before .before .before .before .before .before .before .before .before .before .before) in arm-passed _ _ _ _ _ _ _ _ _ _ _ _ (d .turn) (c .before .before .before .before .before .before .before .before .before .before .before .before .before .before .before .before .before .before .before .before .looked4 .given .0 .1 .0) (c .before .before .before .before .before .before .before .before .before .before .before .before .before .before .before .before .before .before .before .before .looked4 .given .0 .0) (called t (c .before .before .before .before .before .before .before .before .before .before .before .before)) (c .before .before .before .before .before .before .before .before .before .before .before .before .target .given .0 .0) (c .before .before .before .before .before .before .before .before .before .before .before .before .target .given .0 .1 .0) (aims t (c .before .before .before .before .before .before .before .before .before .before .before .before)) (c .before .before .before .before .before .before .before .before .before .before .size-of .result) (sized t (c .before .before .before .before .before .before .before .before .before .before)) (c .before .before .before .before .before .before .run .result) _ _ (ran t (c .before .before .before .before .before .before)) (ended-goes _ (c .enum-told2 .given .1))
 
 run-enum-told-3 : (t : ℕ) → Of run-lts.Need-enum-told-3 t
 run-enum-told-3 t c = search needs
@@ -274,7 +285,7 @@ run-same-length-4 t c = c .before .before .before .before .before .before .run .
 
 run-returns-2 : (t : ℕ) → Of run-lts.Need-returns-2 t
 unfolding RunsTo
-run-returns-2 t c = let d = head t (c .before .before .before .before .before .before .before .before .before .before .before .before .before .before .before .before .before .before .before .before .before .before) in arm-passed _ _ _ _ _ _ _ _ _ _ _ _ (d .turn) (c .before .before .before .before .before .before .before .before .before .before .before .before .before .before .before .before .before .before .before .before .looked4 .given .0 .1 .0) (c .before .before .before .before .before .before .before .before .before .before .before .before .before .before .before .before .before .before .before .before .looked4 .given .0 .0) (called t (c .before .before .before .before .before .before .before .before .before .before .before .before)) (c .before .before .before .before .before .before .before .before .before .before .before .before .target .given .0 .0) (c .before .before .before .before .before .before .before .before .before .before .before .before .target .given .0 .1 .0) (aims t (c .before .before .before .before .before .before .before .before .before .before .before .before)) (c .before .before .before .before .before .before .before .before .before .before .size-of .result) (sized t (c .before .before .before .before .before .before .before .before .before .before)) (c .before .before .before .before .before .before .run .result) _ _ (subst (λ (l : List ℕ). RunsTo (take (c .before .before .before .before .before .before .before .before .before .before .before .before .target .given .0 .1 .0 - c .before .before .before .before .before .before .before .before .before .before .before .before .target .given .0 .0) (drop (c .before .before .before .before .before .before .before .before .before .before .before .before .target .given .0 .0) l)) (c .before .before .before .before .before .before .before .before .before .before .before .before .before .before .before .before .before .before .before .before .before .before .before .before .before .before .before .before .before .args .globals .now) (c .before .before .before .before .before .before .before .before .before .before .before .before .before .before .before .before .before .before .before .before .before .before .before .before .before .before .before .before .before .args .locals .now) (c .before .before .before .before .before .before .before .before .before .before .before .before .before .before .before .before .before .before .before .before .before .before .before .before .before .before .before .before .before .args .by) (record { count = c .before .before .before .before .before .before .before .before .before .before .before .before .before .before .before .before .before .before .before .before .before .before .before .loop .count - 1; tail = c .before .before .before .before .before .before .before .before .before .before .before .before .before .before .before .before .before .before .before .before .before .before .before .loop .tail - 1; hints = c .before .before .before .before .before .before .before .before .before .before .before .before .before .before .before .before .before .before .before .before .before .before .before .loop .hints; mask = c .before .before .before .before .before .before .before .before .before .before .before .before .before .before .before .before .before .before .before .before .before .before .before .loop .mask; tokens = c .before .before .before .before .before .before .before .before .before .before .before .before .before .before .before .before .before .before .before .before .before .before .before .loop .tokens + 1; length = c .before .before .before .before .before .before .before .before .before .before .before .before .before .before .before .before .before .before .before .before .before .before .before .loop .end - c .before .before .before .before .before .before .before .before .before .before .size-of .result }) (c .before .before .before .before .before .before .before .before .before .before .before .before .before .before .before .before .before .before .before .before .before .before .before .loop .stack) (c .before .before .before .before .before .before .before .before .before .before .before .before .before .before .before .before .before .before .before .before .before .before .before .loop .out) (c .before .before .before .before .before .before .before .before .before .before .before .before .before .before .before .before .before .before .before .before .before .before .before .before .before .before .before .before .before .args .levels - 1) (c .before .before .before .before .before .before .run .result) (c .before .before .before .before .before .before .run .last .1 .1 .1 .1 .1 .0) (c .before .before .before .before .before .before .run .last .1 .1 .1 .1 .1 .1 .0)) (c .before .before .before .before .before .before .before .before .before .before .before .before .before .before .before .before .choose .ensures) (c .before .before .before .before .before .before .run .ensures)) (refused-goes _ _ (c .enum-told3 .given .1))
+run-returns-2 t c = let d = head t (c .before .before .before .before .before .before .before .before .before .before .before .before .before .before .before .before .before .before .before .before .before .before) in arm-passed _ _ _ _ _ _ _ _ _ _ _ _ (d .turn) (c .before .before .before .before .before .before .before .before .before .before .before .before .before .before .before .before .before .before .before .before .looked4 .given .0 .1 .0) (c .before .before .before .before .before .before .before .before .before .before .before .before .before .before .before .before .before .before .before .before .looked4 .given .0 .0) (called t (c .before .before .before .before .before .before .before .before .before .before .before .before)) (c .before .before .before .before .before .before .before .before .before .before .before .before .target .given .0 .0) (c .before .before .before .before .before .before .before .before .before .before .before .before .target .given .0 .1 .0) (aims t (c .before .before .before .before .before .before .before .before .before .before .before .before)) (c .before .before .before .before .before .before .before .before .before .before .size-of .result) (sized t (c .before .before .before .before .before .before .before .before .before .before)) (c .before .before .before .before .before .before .run .result) _ _ (ran t (c .before .before .before .before .before .before)) (refused-goes _ _ (c .enum-told3 .given .1))
 
 run-enum-known-target-2 : (t : ℕ) → Of run-lts.Need-enum-known-target-2 t
 run-enum-known-target-2 t c = search needs
