@@ -1,29 +1,25 @@
 //! All 2^32 Fixed values as call indexes, in one process: the proved function against the unchanged
 //! Rust and document 01's rule in the plain profile, and against "65536 divides n" in the strict one.
 
+mod library;
 #[path = "number/rules.rs"]
 #[allow(dead_code)]
 mod rules;
 #[path = "number/source.rs"]
 #[allow(dead_code)]
 mod source;
+mod threads;
 
+use library::{ighzamrel_call_index, PLAIN, STRICT};
 use rules::Operand;
 use std::process::ExitCode;
-use std::sync::atomic::{AtomicU64, Ordering};
-use std::thread;
 use std::time::Instant;
+use threads::{Done, Work};
 
-unsafe extern "C" {
-    fn ighzamrel_call_index(kind: u32, value: i32, profile: u32, index: *mut i32) -> u32;
-}
-
+/// A Fixed as the library takes an operand's kind.
 const FIXED: u32 = 1;
-const PLAIN: u32 = 0;
-const STRICT: u32 = 1;
 
-const THREADS: usize = 2;
-const PARTS: u64 = 32;
+const PARTS: u64 = 4096;
 const PART: u64 = (1 << 32) / PARTS;
 
 /// How many values were whole in each profile.
@@ -35,45 +31,34 @@ struct Whole {
 
 fn main() -> ExitCode {
     let start = Instant::now();
-    let next = AtomicU64::new(0);
-    let parts = || {
-        let mut whole = Whole::default();
-        loop {
-            let part = next.fetch_add(1, Ordering::Relaxed);
-            if part >= PARTS {
-                return Ok(whole);
-            }
-            compare(part * PART, &mut whole)
-                .inspect_err(|_| next.store(PARTS, Ordering::Relaxed))?;
-            println!("part {} of {PARTS}, {} s", part + 1, start.elapsed().as_secs());
-        }
-    };
-    let ended: Vec<Result<Whole, String>> = thread::scope(|scope| {
-        let threads: Vec<_> = (0..THREADS).map(|_| scope.spawn(parts)).collect();
-        threads.into_iter().map(|one| one.join().expect("a thread ends by itself")).collect()
+    let work = Work { name: "Fixed values", parts: PARTS, until: None };
+    let ended = work.run(|part, whole: &mut Whole, done: &Done| {
+        compare(part * PART, whole)?;
+        done.add(PART);
+        Ok(())
     });
-
-    let mut whole = Whole::default();
-    for one in ended {
-        match one {
-            Ok(one) => {
-                whole.plain += one.plain;
-                whole.strict += one.strict;
-            }
-            Err(difference) => {
-                eprintln!("{difference}");
-                return ExitCode::FAILURE;
-            }
+    match ended {
+        Ok(threads) => {
+            report(&threads, start);
+            ExitCode::SUCCESS
+        }
+        Err(difference) => {
+            eprintln!("{difference}");
+            ExitCode::FAILURE
         }
     }
+}
+
+fn report(threads: &[Whole], start: Instant) {
     let all = PARTS * PART;
+    let plain: u64 = threads.iter().map(|whole| whole.plain).sum();
+    let strict: u64 = threads.iter().map(|whole| whole.strict).sum();
     println!(
         "{all} Fixed values compared in {:.1} s, no difference",
         start.elapsed().as_secs_f64()
     );
-    println!("plain: {} whole, {} not", whole.plain, all - whole.plain);
-    println!("strict: {} whole, {} not", whole.strict, all - whole.strict);
-    ExitCode::SUCCESS
+    println!("plain: {plain} whole, {} not", all - plain);
+    println!("strict: {strict} whole, {} not", all - strict);
 }
 
 fn compare(first: u64, whole: &mut Whole) -> Result<(), String> {

@@ -1,6 +1,7 @@
 //! An INDEX written with a last offset at each bound of the offset size, in one process: the proved function
 //! against the unchanged Rust and document 01's rule. The last bound's data are longer than a record of `cases`.
 
+mod library;
 #[path = "index/rules.rs"]
 #[allow(dead_code)]
 mod rules;
@@ -8,19 +9,8 @@ mod rules;
 #[allow(dead_code)]
 mod source;
 
+use library::ighzamrel_write_index;
 use std::process::ExitCode;
-
-unsafe extern "C" {
-    fn ighzamrel_write_index(
-        lengths: *const u32,
-        count: usize,
-        data: *const u8,
-        size: usize,
-        out: *mut u8,
-        room: usize,
-        length: *mut usize,
-    ) -> u32;
-}
 
 /// The largest last offset of one, two and three bytes.
 const BOUNDS: [u32; 3] = [255, 65_535, 16_777_215];

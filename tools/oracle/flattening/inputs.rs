@@ -6,7 +6,12 @@ use crate::record::{operation, Record, MOST};
 use std::collections::HashSet;
 
 mod any;
+mod damaged;
+mod structured;
+mod wrong;
 pub use any::random;
+pub use damaged::damaged;
+pub use structured::structured;
 
 /// A budget and a room that no case of the list uses up.
 const AMPLE: u32 = 1_000_000;
@@ -22,17 +27,18 @@ const FIRST: u8 = 0x20;
 const SECOND: u8 = 0x21;
 const THIRD: u8 = 0x22;
 
-const NONE: &[u8] = &[0x00, 0x00];
+/// The list without entries.
+pub const NONE: &[u8] = &[0x00, 0x00];
 
 /// Document 01's local list.
-const L: &[u8] = &[0x00, 0x01, 0x01, 0x01, 0x05, 0x8C, 0x8D, 0x15, 0x0B];
+pub const L: &[u8] = &[0x00, 0x01, 0x01, 0x01, 0x05, 0x8C, 0x8D, 0x15, 0x0B];
 
 /// A charstring and its lists.
 #[derive(Clone)]
-struct Case {
-    charstring: Vec<u8>,
-    globals: Vec<u8>,
-    locals: Vec<u8>,
+pub struct Case {
+    pub charstring: Vec<u8>,
+    pub globals: Vec<u8>,
+    pub locals: Vec<u8>,
 }
 
 impl Case {
@@ -155,7 +161,7 @@ pub fn exhaustive() -> Vec<Record> {
 }
 
 /// An INDEX of these entries.
-fn list<T: AsRef<[u8]>>(entries: &[T]) -> Vec<u8> {
+pub fn list<T: AsRef<[u8]>>(entries: &[T]) -> Vec<u8> {
     let lengths: Vec<u32> = entries.iter().map(|entry| entry.as_ref().len() as u32).collect();
     let data: Vec<u8> = entries.iter().flat_map(|entry| entry.as_ref().to_vec()).collect();
     indexes::written(&lengths, &data).expect("the lengths are those of the data")

@@ -3,8 +3,8 @@
 //! tokens and room are the rule's alone.
 
 pub mod inputs;
-mod rules;
-mod source;
+pub mod rules;
+pub mod source;
 
 use crate::expected::must_agree;
 use crate::record::{hex, Arguments};
@@ -18,6 +18,12 @@ pub const ANSWERS: [(u8, &[u32]); 1] = [(8, &[0, 1, 2, 3, 4, 5, 6, 7, 8, 9, 10, 
 
 /// The line for a record of the operation, or `None` where it is no such record.
 pub fn line(_: u8, arguments: &mut Arguments) -> Option<String> {
+    let (asked, room) = read(arguments)?;
+    Some(flattened_line(&asked, room))
+}
+
+/// What a record asks, and the room.
+pub fn read<'a>(arguments: &mut Arguments<'a>) -> Option<(Asked<'a>, usize)> {
     let profile = arguments.u8()?;
     let budget = arguments.u32()?;
     let room = arguments.room()?;
@@ -29,13 +35,15 @@ pub fn line(_: u8, arguments: &mut Arguments) -> Option<String> {
         locals: arguments.bytes()?,
     };
     arguments.end()?;
-    (profile <= 1).then(|| flattened_line(&asked, room))
+    (profile <= 1).then_some((asked, room))
 }
 
 fn flattened_line(asked: &Asked, room: usize) -> String {
     let verdict = rules::flattened(asked);
     if let (false, Some(expected)) = (asked.strict, owed(&verdict)) {
-        must_agree(&expected, &source::flattened(asked), "flattening", asked.charstring);
+        let source = source::flattened(asked);
+        let source = source.as_ref().map(|flat| &flat[..]).map_err(|error| *error);
+        must_agree(&expected, &source, "flattening", asked.charstring);
     }
     match verdict {
         Verdict::Flat(bytes, tokens) if bytes.len() > room => {
@@ -48,9 +56,9 @@ fn flattened_line(asked: &Asked, room: usize) -> String {
 }
 
 /// What the Rust owes for a verdict, or `None` where document 01 does not hold it to one.
-fn owed(verdict: &Verdict) -> Option<Result<Vec<u8>, Error>> {
+pub fn owed(verdict: &Verdict) -> Option<Result<&[u8], Error>> {
     match verdict {
-        Verdict::Flat(bytes, _) => Some(Ok(bytes.clone())),
+        Verdict::Flat(bytes, _) => Some(Ok(bytes)),
         Verdict::BadList(_) | Verdict::Stopped(3 | 8 | 11, _) => None,
         Verdict::Stopped(12, _) => Some(Err(Error::Unimplemented)),
         Verdict::Stopped(..) => Some(Err(Error::CFFError)),

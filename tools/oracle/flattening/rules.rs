@@ -41,6 +41,21 @@ struct List<'a> {
     count: u32,
 }
 
+/// Both lists, well formed.
+#[derive(Clone, Copy)]
+pub struct Lists<'a> {
+    globals: List<'a>,
+    locals: List<'a>,
+}
+
+/// What a run met: calls that it entered, those of them by a Fixed, and masks.
+#[derive(Clone, Copy, Debug, Default)]
+pub struct Met {
+    pub calls: u64,
+    pub fixed: u64,
+    pub masks: u64,
+}
+
 /// How a string ended.
 #[derive(PartialEq)]
 enum Ending {
@@ -51,38 +66,50 @@ enum Ending {
 struct Run<'a> {
     strict: bool,
     budget: u32,
-    globals: List<'a>,
-    locals: List<'a>,
+    lists: Lists<'a>,
     tokens: u32,
     /// The operands, each with the token that it came from.
     stack: Vec<(Operand, u32)>,
     flat: Vec<Item>,
     hints: usize,
     mask_length: usize,
+    met: Met,
 }
 
 /// 1, 2, then the run's first refusal.
 pub fn flattened(asked: &Asked) -> Verdict {
-    let Some(globals) = list(asked.globals) else {
-        return Verdict::BadList(1);
-    };
-    let Some(locals) = list(asked.locals) else {
-        return Verdict::BadList(2);
-    };
-    let mut run = Run {
-        strict: asked.strict,
-        budget: asked.budget,
-        globals,
-        locals,
-        tokens: 0,
-        stack: Vec::new(),
-        flat: Vec::new(),
-        hints: 0,
-        mask_length: 0,
-    };
-    match run.string(asked.charstring, 1) {
-        Ok(_) => Verdict::Flat(run.flat.into_iter().flat_map(|i| i.bytes).collect(), run.tokens),
-        Err(refusal) => Verdict::Stopped(refusal, run.tokens),
+    match Lists::judged(asked.globals, asked.locals) {
+        Ok(lists) => lists.flattened(asked.charstring, asked.strict, asked.budget).0,
+        Err(refusal) => Verdict::BadList(refusal),
+    }
+}
+
+impl<'a> Lists<'a> {
+    /// 1, then 2.
+    pub fn judged(globals: &'a [u8], locals: &'a [u8]) -> Result<Self, Refusal> {
+        Ok(Lists { globals: list(globals).ok_or(1u32)?, locals: list(locals).ok_or(2u32)? })
+    }
+
+    /// The run's first refusal, or the flat string; and what the run met.
+    pub fn flattened(self, charstring: &'a [u8], strict: bool, budget: u32) -> (Verdict, Met) {
+        let mut run = Run {
+            strict,
+            budget,
+            lists: self,
+            tokens: 0,
+            stack: Vec::new(),
+            flat: Vec::new(),
+            hints: 0,
+            mask_length: 0,
+            met: Met::default(),
+        };
+        let verdict = match run.string(charstring, 1) {
+            Ok(_) => {
+                Verdict::Flat(run.flat.into_iter().flat_map(|i| i.bytes).collect(), run.tokens)
+            }
+            Err(refusal) => Verdict::Stopped(refusal, run.tokens),
+        };
+        (verdict, run.met)
     }
 }
 
@@ -175,12 +202,13 @@ impl<'a> Run<'a> {
         }
         let (mask, after) = from.split_at_checked(self.mask_length).ok_or(4u32)?;
         self.keep([&[b], mask].concat());
+        self.met.masks += 1;
         Ok(after)
     }
 
     /// 7, 9, 10, 8, and then what the entry gives.
     fn call(&mut self, global: bool, depth: u32) -> Result<Ending, Refusal> {
-        let list = if global { self.globals } else { self.locals };
+        let list = if global { self.lists.globals } else { self.lists.locals };
         let deepest = if self.strict { 11 } else { 64 };
         let (operand, token) = self.stack.pop().ok_or(7u32)?;
         let callee = numbers::callee(operand, self.strict, list.count)?;
@@ -190,6 +218,8 @@ impl<'a> Run<'a> {
         if self.flat.pop().is_none_or(|last| last.token != token) {
             return Err(8);
         }
+        self.met.calls += 1;
+        self.met.fixed += u64::from(matches!(operand, Operand::Fixed(_)));
         let entry = indexes::entry(list.bytes, callee).expect("the list is well formed");
         self.string(&list.bytes[entry.place..entry.place + entry.length], depth + 1)
     }

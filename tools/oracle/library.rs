@@ -1,0 +1,35 @@
+//! The C functions of the proved library. A binary links only those that it calls.
+#![allow(dead_code)]
+
+unsafe extern "C" {
+    pub fn ighzamrel_call_index(kind: u32, value: i32, profile: u32, index: *mut i32) -> u32;
+
+    pub fn ighzamrel_write_index(
+        lengths: *const u32,
+        count: usize,
+        data: *const u8,
+        size: usize,
+        out: *mut u8,
+        room: usize,
+        length: *mut usize,
+    ) -> u32;
+
+    pub fn ighzamrel_flatten(
+        charstring: *const u8,
+        charstring_size: usize,
+        globals: *const u8,
+        globals_size: usize,
+        locals: *const u8,
+        locals_size: usize,
+        profile: u32,
+        budget: u32,
+        out: *mut u8,
+        room: usize,
+        length: *mut usize,
+        tokens: *mut u32,
+    ) -> u32;
+}
+
+/// The profiles as the library takes them.
+pub const PLAIN: u32 = 0;
+pub const STRICT: u32 = 1;

@@ -1,0 +1,173 @@
+//! The inputs of a run, section by section: the stored list, all short strings, random ones, and fonts.
+
+use super::compare::{Comparison, Lists};
+use super::ours::Flatten;
+use super::shrink::described;
+use super::tally::Tally;
+use crate::flattening::{self, inputs};
+use crate::fonts::{self, Font};
+use crate::random::Random;
+use crate::record::{Arguments, Record};
+use crate::threads::{Done, Work};
+use std::collections::HashMap;
+use std::path::PathBuf;
+use std::time::Instant;
+
+/// Budgets beyond which no run is followed: for inputs that were made, and for those that have long runs.
+const AMPLE: u32 = 20_000;
+const LONG: u32 = 10_000_000;
+
+/// Random charstrings in a part, and damaged ones beside them.
+const STRUCTURED: u64 = 4_000;
+const DAMAGED: u64 = 1_000;
+
+/// What every section goes by.
+#[derive(Clone, Copy)]
+pub struct Run {
+    pub flatten: Flatten,
+    pub seed: u64,
+    /// When the random ones end; without it, all of everything is compared.
+    pub until: Option<Instant>,
+}
+
+/// One thread's hand: what it compares with, and what it counts.
+struct Hand<'a> {
+    name: String,
+    comparison: Comparison,
+    random: Random,
+    done: &'a Done,
+}
+
+impl Hand<'_> {
+    fn case(&mut self, lists: &Lists, string: &[u8], tally: &mut Tally) -> Result<(), String> {
+        self.done.add(1);
+        self.comparison.case(lists, string, &mut self.random, tally).map_err(|difference| {
+            let number = tally.compared();
+            let described = described(&mut self.comparison, &difference);
+            format!("difference in {}, charstring {number} of its thread:\n{described}", self.name)
+        })
+    }
+}
+
+impl Run {
+    fn hand<'a>(&self, name: &str, part: u64, ample: u32, done: &'a Done) -> Hand<'a> {
+        let mixed = Random::new(self.seed.wrapping_add(part)).next();
+        Hand {
+            name: format!("{name}, seed {}, part {part}", self.seed),
+            comparison: Comparison::new(self.flatten, ample),
+            random: Random::new(mixed),
+            done,
+        }
+    }
+
+    /// The flattenings of the stored list of `cases`, and those too big or too many to store.
+    pub fn listed(&self) -> Result<Tally, String> {
+        let records: Vec<Record> =
+            [inputs::listed(), inputs::longest(), inputs::exhaustive()].concat();
+        let parts: Vec<&[Record]> = records.chunks(500).collect();
+        let work = Work { name: "listed", parts: parts.len() as u64, until: None };
+        let tallies = work.run(|part, tally: &mut Tally, done| {
+            let mut hand = self.hand(work.name, part, LONG, done);
+            parts[part as usize].iter().try_for_each(|record| of_record(&mut hand, record, tally))
+        })?;
+        Ok(sum(&tallies))
+    }
+
+    /// All strings of up to three bytes, with empty lists and with document 01's local list; of a sample, up to two.
+    pub fn exhaustive(&self) -> Result<Tally, String> {
+        let firsts = if self.until.is_none() { 256 } else { 0 };
+        let work = Work { name: "exhaustive", parts: 2 * (firsts + 1), until: None };
+        let tallies = work.run(|part, tally: &mut Tally, done| {
+            let mut hand = self.hand(work.name, part, AMPLE, done);
+            let locals = if part % 2 == 0 { inputs::NONE } else { inputs::L };
+            let lists = Lists::new(inputs::NONE, locals);
+            let first = (part / 2).checked_sub(1).map(|first| first as u8);
+            strings(first, |string| hand.case(&lists, string, tally))
+        })?;
+        Ok(sum(&tallies))
+    }
+
+    /// Structured ones, and damaged ones beside them: so many of the first, or as many as there is time for.
+    pub fn random(&self, cases: u64) -> Result<[Tally; 2], String> {
+        let parts = if self.until.is_some() { u64::MAX } else { cases.div_ceil(STRUCTURED) };
+        let work = Work { name: "random and damaged", parts, until: self.until };
+        let tallies = work.run(|part, tallies: &mut [Tally; 2], done| {
+            let mut hand = self.hand(work.name, part, AMPLE, done);
+            for number in 0..STRUCTURED + DAMAGED {
+                let hurt = number >= STRUCTURED;
+                let mut case = inputs::structured(&mut hand.random);
+                if hurt {
+                    case = inputs::damaged(case, &mut hand.random);
+                }
+                let lists = Lists::new(&case.globals, &case.locals);
+                hand.case(&lists, &case.charstring, &mut tallies[usize::from(hurt)])?;
+            }
+            Ok(())
+        })?;
+        Ok([0, 1].map(|kind| {
+            sum(&tallies.iter().map(|tallies| tallies[kind].clone()).collect::<Vec<_>>())
+        }))
+    }
+
+    /// The glyphs of the fonts in these folders, at most so many of a font, and how many fonts there were.
+    pub fn fonts(&self, folders: &[PathBuf], most: usize) -> Result<(Tally, usize), String> {
+        let files = fonts::files(folders);
+        let work = Work { name: "fonts", parts: files.len() as u64, until: None };
+        let tallies = work.run(|part, (tally, count): &mut (Tally, usize), done| {
+            let path = &files[part as usize];
+            let found = fonts::read(path).map_err(|why| format!("{}: {why}", path.display()))?;
+            *count += found.len();
+            found.iter().try_for_each(|font| {
+                let mut hand = self.hand(&format!("the font {}", font.name), part, LONG, done);
+                of_font(&mut hand, font, most, tally)
+            })
+        })?;
+        let count = tallies.iter().map(|(_, count)| count).sum();
+        Ok((sum(&tallies.into_iter().map(|(tally, _)| tally).collect::<Vec<_>>()), count))
+    }
+}
+
+fn of_record(hand: &mut Hand, record: &Record, tally: &mut Tally) -> Result<(), String> {
+    let asked = flattening::read(&mut Arguments::new(&record[1..]));
+    let (asked, room) = asked.expect("the list has only sound records");
+    let lists = Lists::new(asked.globals, asked.locals);
+    hand.case(&lists, asked.charstring, tally)?;
+    let alone = hand.comparison.alone(asked, room);
+    alone.map_err(|difference| described(&mut hand.comparison, &difference))
+}
+
+fn of_font(hand: &mut Hand, font: &Font, most: usize, tally: &mut Tally) -> Result<(), String> {
+    let step = font.glyphs().count().div_ceil(most).max(1);
+    let mut lists = HashMap::new();
+    for glyph in font.glyphs().step_by(step) {
+        let lists = lists
+            .entry(glyph.locals.as_ptr())
+            .or_insert_with(|| Lists::new(glyph.globals, glyph.locals));
+        hand.case(lists, glyph.charstring, tally)?;
+    }
+    Ok(())
+}
+
+/// All strings of a first byte and two more, or of up to two bytes where there is none.
+fn strings(
+    first: Option<u8>,
+    mut each: impl FnMut(&[u8]) -> Result<(), String>,
+) -> Result<(), String> {
+    if first.is_none() {
+        each(&[])?;
+        (0..=255).try_for_each(|a| each(&[a]))?;
+    }
+    let start: Vec<u8> = first.into_iter().collect();
+    for a in 0..=255 {
+        for b in 0..=255 {
+            each(&[&start[..], &[a, b]].concat())?;
+        }
+    }
+    Ok(())
+}
+
+fn sum(tallies: &[Tally]) -> Tally {
+    let mut all = Tally::default();
+    tallies.iter().for_each(|tally| all.add(tally));
+    all
+}
