@@ -1,17 +1,33 @@
 # `make test` is the gate. SECONDS is how long the comparison with the Rust goes on; SOURCES is the folder that has the Rust's files as src--*.
-SECONDS = 60
+SECONDS =
 SOURCES = ../shared
 export SOURCES
 
-.PHONY: test list fixed bench clean
+.PHONY: test list differential faults fixed bench clean
 
 test:
-	@tools/test $(SECONDS)
+	@tools/test $(or $(SECONDS),60)
 
 # the stored list of the program `cases`, made anew from the Rust's answers and document 01's rules
 list:
 	tools/oracle/build
 	target/oracle/oracle list crates/cases
+
+# flattening, the proved C function against the Rust and document 01's model in one process: all strings of up to three bytes, CASES random
+# ones, damaged ones, and the glyphs of the fonts in the folders FONTS; with SECONDS, a sample of so many seconds. SEED repeats a run.
+CASES = 10000000
+SEED =
+FONTS =
+differential:
+	tools/native-staticlib ighzamrel
+	tools/oracle/build flatten
+	target/oracle/flatten CASES=$(CASES) SECONDS=$(SECONDS) SEED=$(SEED) FONTS='$(FONTS)'
+
+# that comparison against faults that are planted in the Rust and before the library, at most SECONDS for each
+faults:
+	tools/native-staticlib ighzamrel
+	tools/oracle/build flatten
+	tools/oracle/faults $(or $(SECONDS),20) $(SEED)
 
 # all 2^32 Fixed values as call indexes, the proved function against the Rust
 fixed:

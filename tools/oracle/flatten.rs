@@ -37,6 +37,13 @@ usage: flatten [CASES=N] [SEED=N] [FONTS='FOLDER ..']            the full run
 const CASES: u64 = 10_000_000;
 const LEAST: u64 = 1000;
 
+/// Whose word what is.
+const HELD: &str = "\
+the Rust's word: the bytes of an accepted one, CFFError for 4, 5, 6, 7, 9 and 10, Unimplemented for 12, in the plain profile
+the model's word, at every call: the number of the refusal, the tokens, the length, 1, 2, 3, 8, 11 and 13, the strict profile
+and of each call: no byte changed but the flat string's, and no place set but those that the answer gives";
+const NO_FONTS: &str = "no CFF fonts were found; name folders in FONTS, or apt-get install ";
+
 /// How many glyphs of a font a sample takes.
 const SAMPLED_GLYPHS: usize = 200;
 
@@ -119,23 +126,18 @@ fn everything(options: &Options) -> Result<(), Failure> {
     let most = if full { usize::MAX } else { SAMPLED_GLYPHS };
     let (glyphs, fonts) = run.fonts(&options.folders, most).map_err(Failure::Difference)?;
     glyphs.report(&format!("glyphs of {fonts} fonts"), seconds());
-    let [random, damaged] = run.random(options.cases).map_err(Failure::Difference)?;
+    let [mut random, damaged] = run.random(options.cases).map_err(Failure::Difference)?;
     let spent = seconds();
     random.report("random", spent);
     damaged.report("damaged", spent);
-    println!("which refusal, the tokens and the strict profile are held against document 01's model at every call");
+    println!("{HELD}");
 
     let mut lacks = random.lacks(if full { LEAST } else { 1 });
+    random.add(&damaged);
+    lacks.extend(random.missing());
     if fonts == 0 {
-        let none = format!(
-            "there are no CFF fonts; name folders in FONTS, or apt-get install {}",
-            fonts::PACKAGES
-        );
-        if full {
-            lacks.push(none);
-        } else {
-            println!("{none}");
-        }
+        println!("{NO_FONTS}{}", fonts::PACKAGES);
+        lacks.extend(full.then(|| "a full run takes fonts".to_string()));
     }
     if lacks.is_empty() {
         Ok(())

@@ -15,7 +15,7 @@ use std::time::Instant;
 
 /// Budgets beyond which no run is followed: for inputs that were made, and for those that have long runs.
 const AMPLE: u32 = 20_000;
-const LONG: u32 = 10_000_000;
+const LONG: u32 = 1_100_000;
 
 /// Random charstrings in a part, and damaged ones beside them.
 const STRUCTURED: u64 = 4_000;
@@ -30,21 +30,23 @@ pub struct Run {
     pub until: Option<Instant>,
 }
 
-/// One thread's hand: what it compares with, and what it counts.
+/// What one part is compared with. The seed and the part's number give its charstrings again.
 struct Hand<'a> {
     name: String,
     comparison: Comparison,
     random: Random,
+    /// How many charstrings it had.
+    number: u64,
     done: &'a Done,
 }
 
 impl Hand<'_> {
     fn case(&mut self, lists: &Lists, string: &[u8], tally: &mut Tally) -> Result<(), String> {
         self.done.add(1);
+        self.number += 1;
         self.comparison.case(lists, string, &mut self.random, tally).map_err(|difference| {
-            let number = tally.compared();
             let described = described(&mut self.comparison, &difference);
-            format!("difference in {}, charstring {number} of its thread:\n{described}", self.name)
+            format!("difference in {}, charstring {}:\n{described}", self.name, self.number)
         })
     }
 }
@@ -56,6 +58,7 @@ impl Run {
             name: format!("{name}, seed {}, part {part}", self.seed),
             comparison: Comparison::new(self.flatten, ample),
             random: Random::new(mixed),
+            number: 0,
             done,
         }
     }
