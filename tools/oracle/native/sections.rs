@@ -1,6 +1,7 @@
 //! The inputs of a run, section by section: the stored list, all short strings, random ones, and fonts.
 
 use super::compare::{Comparison, Lists};
+use super::inputs::{damaged, structured};
 use super::ours::Flatten;
 use super::shrink::described;
 use super::tally::Tally;
@@ -98,9 +99,9 @@ impl Run {
             let mut hand = self.hand(work.name, part, AMPLE, done);
             for number in 0..STRUCTURED + DAMAGED {
                 let hurt = number >= STRUCTURED;
-                let mut case = inputs::structured(&mut hand.random);
+                let mut case = structured(&mut hand.random);
                 if hurt {
-                    case = inputs::damaged(case, &mut hand.random);
+                    case = damaged(case, &mut hand.random);
                 }
                 let lists = Lists::new(&case.globals, &case.locals);
                 hand.case(&lists, &case.charstring, &mut tallies[usize::from(hurt)])?;

@@ -5,8 +5,8 @@ use crate::random::Random;
 use crate::record::Record;
 
 /// Operators that take what there is and go on.
-pub(super) const PATHS: [u8; 13] = [4, 5, 6, 7, 8, 21, 22, 24, 25, 26, 27, 30, 31];
-pub(super) const STEMS: [u8; 4] = [1, 3, 18, 23];
+pub const PATHS: [u8; 13] = [4, 5, 6, 7, 8, 21, 22, 24, 25, 26, 27, 30, 31];
+pub const STEMS: [u8; 4] = [1, 3, 18, 23];
 
 /// 48 operands and a stem: 24 hints.
 const FULL_STEM: [u8; 49] = {
@@ -72,7 +72,7 @@ fn add_token(string: &mut Vec<u8>, random: &mut Random) {
     }
 }
 
-pub(super) fn add_number(string: &mut Vec<u8>, random: &mut Random) {
+pub fn add_number(string: &mut Vec<u8>, random: &mut Random) {
     match random.within(0, 4) {
         0 | 1 => string.push(random.within(32, 246) as u8),
         2 => string.extend([random.within(247, 254) as u8, random.next() as u8]),

@@ -1,9 +1,9 @@
 //! Random charstrings that mostly run to their end: stems, masks of their width, paths, and calls of subroutines
 //! that call others, over lists on both sides of each bias. About a third have one thing wrong in them.
 
-use super::any::{add_number, PATHS, STEMS};
 use super::wrong::{add_unfinished, add_wrong};
-use super::{list, Case, GLOBAL, LOCAL};
+use crate::flattening::inputs::any::{add_number, PATHS, STEMS};
+use crate::flattening::inputs::{list, Case, GLOBAL, LOCAL};
 use crate::number::rules::{bias, written, Operand, Place};
 use crate::random::Random;
 

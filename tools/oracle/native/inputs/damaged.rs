@@ -1,6 +1,6 @@
 //! Charstrings and lists with a few bytes changed, cut off, put in or left out.
 
-use super::Case;
+use crate::flattening::inputs::Case;
 use crate::random::Random;
 
 /// The same with one to four hurts, mostly of the charstring.
