@@ -73,6 +73,7 @@ pub fn read(path: &Path) -> io::Result<Vec<Font>> {
     let stem = path.file_stem().map_or(String::new(), |stem| stem.to_string_lossy().into_owned());
     let mut tables: Vec<Range<usize>> =
         faces(&bytes).iter().filter_map(|&at| cff_table(&bytes, at)).collect();
+    tables.sort_by_key(|table| table.start);
     tables.dedup();
     let several = tables.len() > 1;
     Ok(tables
@@ -169,49 +170,35 @@ fn operand(dict: &[u8], operator: u16, which: usize) -> Option<usize> {
     let mut operands: Vec<i64> = Vec::new();
     let mut i = 0;
     while let Some(&b) = dict.get(i) {
-        let byte = |k: usize| dict.get(i + k).map(|&b| i64::from(b));
-        match b {
-            0..=21 => {
-                let found = if b == 12 { ESCAPED | byte(1)? as u16 } else { u16::from(b) };
-                if found == operator {
-                    return usize::try_from(*operands.get(which)?).ok();
-                }
-                operands.clear();
-                i += if b == 12 { 2 } else { 1 };
-            }
-            28 => {
-                operands.push(i64::from((byte(1)? << 8 | byte(2)?) as i16));
-                i += 3;
-            }
-            29 => {
-                operands.push(i64::from(number(dict, i + 1, 4)? as i32));
-                i += 5;
-            }
-            30 => {
-                // a real, which no operator that is asked for takes
-                operands.push(-1);
-                i += 1;
-                while dict.get(i)? & 0x0F != 0x0F {
-                    i += 1;
-                }
-                i += 1;
-            }
-            32..=246 => {
-                operands.push(i64::from(b) - 139);
-                i += 1;
-            }
-            247..=250 => {
-                operands.push((i64::from(b) - 247) * 256 + byte(1)? + 108);
-                i += 2;
-            }
-            251..=254 => {
-                operands.push((251 - i64::from(b)) * 256 - byte(1)? - 108);
-                i += 2;
-            }
-            _ => return None,
+        if b > 21 {
+            let (number, width) = dict_number(&dict[i..])?;
+            operands.push(number);
+            i += width;
+            continue;
         }
+        let found = if b == 12 { ESCAPED | u16::from(*dict.get(i + 1)?) } else { u16::from(b) };
+        if found == operator {
+            return usize::try_from(*operands.get(which)?).ok();
+        }
+        operands.clear();
+        i += if b == 12 { 2 } else { 1 };
     }
     None
+}
+
+/// The number at the start of these bytes, and its width. A real, which no operator that is asked for takes, is -1.
+fn dict_number(bytes: &[u8]) -> Option<(i64, usize)> {
+    let b = i64::from(*bytes.first()?);
+    let next = || number(bytes, 1, 1).map(|next| next as i64);
+    Some(match b {
+        28 => (i64::from(number(bytes, 1, 2)? as i16), 3),
+        29 => (i64::from(number(bytes, 1, 4)? as i32), 5),
+        30 => (-1, 2 + bytes[1..].iter().position(|b| b & 0x0F == 0x0F)?),
+        32..=246 => (b - 139, 1),
+        247..=250 => ((b - 247) * 256 + next()? + 108, 2),
+        251..=254 => ((251 - b) * 256 - next()? - 108, 2),
+        _ => return None,
+    })
 }
 
 /// An INDEX of a table.

@@ -48,12 +48,14 @@ pub struct Lists<'a> {
     locals: List<'a>,
 }
 
-/// What a run met: calls that it entered, those of them by a Fixed, and masks.
+/// What a run met: calls that it entered, those of them by a Fixed, and of these the nearly whole; masks; the depth.
 #[derive(Clone, Copy, Debug, Default)]
 pub struct Met {
     pub calls: u64,
     pub fixed: u64,
+    pub nearly: u64,
     pub masks: u64,
+    pub deepest: u32,
 }
 
 /// How a string ended.
@@ -110,6 +112,17 @@ impl<'a> Lists<'a> {
             Err(refusal) => Verdict::Stopped(refusal, run.tokens),
         };
         (verdict, run.met)
+    }
+}
+
+impl Met {
+    fn call(&mut self, operand: Operand, depth: u32) {
+        self.calls += 1;
+        self.deepest = self.deepest.max(depth);
+        if let Operand::Fixed(n) = operand {
+            self.fixed += 1;
+            self.nearly += u64::from(n % 65536 != 0);
+        }
     }
 }
 
@@ -218,8 +231,7 @@ impl<'a> Run<'a> {
         if self.flat.pop().is_none_or(|last| last.token != token) {
             return Err(8);
         }
-        self.met.calls += 1;
-        self.met.fixed += u64::from(matches!(operand, Operand::Fixed(_)));
+        self.met.call(operand, depth + 1);
         let entry = indexes::entry(list.bytes, callee).expect("the list is well formed");
         self.string(&list.bytes[entry.place..entry.place + entry.length], depth + 1)
     }

@@ -12,11 +12,14 @@ use crate::record::{Arguments, Record};
 use crate::threads::{Done, Work};
 use std::collections::HashMap;
 use std::path::PathBuf;
-use std::time::Instant;
+use std::time::{Duration, Instant};
 
 /// Budgets beyond which no run is followed: for inputs that were made, and for those that have long runs.
 const AMPLE: u32 = 20_000;
 const LONG: u32 = 1_100_000;
+
+/// What the random ones of a sample have at least, however long the sections before them took.
+const LEAST_TIME: Duration = Duration::from_secs(5);
 
 /// Random charstrings in a part, and damaged ones beside them.
 const STRUCTURED: u64 = 4_000;
@@ -94,7 +97,8 @@ impl Run {
     /// Structured ones, and damaged ones beside them: so many of the first, or as many as there is time for.
     pub fn random(&self, cases: u64) -> Result<[Tally; 2], String> {
         let parts = if self.until.is_some() { u64::MAX } else { cases.div_ceil(STRUCTURED) };
-        let work = Work { name: "random and damaged", parts, until: self.until };
+        let until = self.until.map(|until| until.max(Instant::now() + LEAST_TIME));
+        let work = Work { name: "random and damaged", parts, until };
         let tallies = work.run(|part, tallies: &mut [Tally; 2], done| {
             let mut hand = self.hand(work.name, part, AMPLE, done);
             for number in 0..STRUCTURED + DAMAGED {

@@ -16,9 +16,11 @@ pub struct Tally {
     /// Accepted charstrings with each of these in them.
     called: u64,
     fixed: u64,
+    nearly: u64,
     masked: u64,
-    /// Calls that those followed.
+    /// Calls that those followed, and how deep.
     followed: u64,
+    deepest: u32,
 }
 
 impl Tally {
@@ -31,8 +33,10 @@ impl Tally {
         if answer == 0 {
             self.called += u64::from(met.calls > 0);
             self.fixed += u64::from(met.fixed > 0);
+            self.nearly += u64::from(met.nearly > 0);
             self.masked += u64::from(met.masks > 0);
             self.followed += met.calls;
+            self.deepest = self.deepest.max(met.deepest);
         }
     }
 
@@ -50,8 +54,10 @@ impl Tally {
         self.rust += other.rust;
         self.called += other.called;
         self.fixed += other.fixed;
+        self.nearly += other.nearly;
         self.masked += other.masked;
         self.followed += other.followed;
+        self.deepest = self.deepest.max(other.deepest);
     }
 
     pub fn compared(&self) -> u64 {
@@ -67,8 +73,15 @@ impl Tally {
         println!("  plain and ample, charstrings by answer:{}", row(&self.cases));
         println!("  all calls by answer:{}", row(&self.calls));
         println!(
-            "  of the {} accepted: {} with calls ({} calls), {} with Fixed indexes, {} with masks",
-            self.cases[0], self.called, self.followed, self.fixed, self.masked
+            "  of the {} accepted: {} with calls ({} calls, down to depth {}), {} with Fixed indexes, \
+             {} with nearly whole ones, {} with masks",
+            self.cases[0],
+            self.called,
+            self.followed,
+            self.deepest,
+            self.fixed,
+            self.nearly,
+            self.masked
         );
         println!(
             "  {} calls also held against the Rust's bytes or error; {} by document 01's model alone",
@@ -87,8 +100,8 @@ impl Tally {
         if self.called * 3 < self.cases[0] {
             lacks.push("less than a third of the accepted ones had a call".into());
         }
-        if self.masked == 0 || self.fixed == 0 {
-            lacks.push("no accepted one had a mask, or none a Fixed index".into());
+        if [self.masked, self.fixed, self.nearly].contains(&0) {
+            lacks.push("no accepted one had a mask, a Fixed index, or a nearly whole one".into());
         }
         lacks
     }
