@@ -147,8 +147,11 @@ fn everything(options: &Options) -> Result<(), Failure> {
 }
 
 fn random_alone(options: &Options, seconds: u64) -> Result<(), Failure> {
-    let tallies = options.run(Some(seconds)).random(0).map_err(Failure::Difference)?;
-    tallies.iter().zip(["random", "damaged"]).for_each(|(tally, name)| tally.report(name, seconds));
+    let start = Instant::now();
+    let [random, damaged] = options.run(Some(seconds)).random(0).map_err(Failure::Difference)?;
+    let spent = start.elapsed().as_secs();
+    random.report("random", spent);
+    damaged.report("damaged", spent);
     Ok(())
 }
 

@@ -1,6 +1,6 @@
 //! The inputs of a run, section by section: the stored list, all short strings, random ones, and fonts.
 
-use super::compare::{Comparison, Lists};
+use super::compare::{Comparison, Difference, Lists};
 use super::inputs::{damaged, structured};
 use super::ours::Flatten;
 use super::shrink::described;
@@ -34,35 +34,38 @@ pub struct Run {
     pub until: Option<Instant>,
 }
 
-/// What one part is compared with. The seed and the part's number give its charstrings again.
-struct Hand<'a> {
+/// A part of a section, which one thread compares. The seed and the part's number give its charstrings again.
+struct Part<'a> {
     name: String,
     comparison: Comparison,
     random: Random,
-    /// How many charstrings it had.
-    number: u64,
+    /// How many charstrings it had so far.
+    count: u64,
     done: &'a Done,
 }
 
-impl Hand<'_> {
+impl Part<'_> {
     fn case(&mut self, lists: &Lists, string: &[u8], tally: &mut Tally) -> Result<(), String> {
         self.done.add(1);
-        self.number += 1;
-        self.comparison.case(lists, string, &mut self.random, tally).map_err(|difference| {
-            let described = described(&mut self.comparison, &difference);
-            format!("difference in {}, charstring {}:\n{described}", self.name, self.number)
-        })
+        self.count += 1;
+        let same = self.comparison.case(lists, string, &mut self.random, tally);
+        same.map_err(|difference| self.described(&difference))
+    }
+
+    fn described(&mut self, difference: &Difference) -> String {
+        let described = described(&mut self.comparison, difference);
+        format!("difference in {}, charstring {}:\n{described}", self.name, self.count)
     }
 }
 
 impl Run {
-    fn hand<'a>(&self, name: &str, part: u64, ample: u32, done: &'a Done) -> Hand<'a> {
-        let mixed = Random::new(self.seed.wrapping_add(part)).next();
-        Hand {
-            name: format!("{name}, seed {}, part {part}", self.seed),
+    fn part<'a>(&self, name: &str, number: u64, ample: u32, done: &'a Done) -> Part<'a> {
+        let mixed = Random::new(self.seed.wrapping_add(number)).next();
+        Part {
+            name: format!("{name}, seed {}, part {number}", self.seed),
             comparison: Comparison::new(self.flatten, ample),
             random: Random::new(mixed),
-            number: 0,
+            count: 0,
             done,
         }
     }
@@ -73,9 +76,9 @@ impl Run {
             [inputs::listed(), inputs::longest(), inputs::exhaustive()].concat();
         let parts: Vec<&[Record]> = records.chunks(500).collect();
         let work = Work { name: "listed", parts: parts.len() as u64, until: None };
-        let tallies = work.run(|part, tally: &mut Tally, done| {
-            let mut hand = self.hand(work.name, part, LONG, done);
-            parts[part as usize].iter().try_for_each(|record| of_record(&mut hand, record, tally))
+        let tallies = work.run(|number, tally: &mut Tally, done| {
+            let mut part = self.part(work.name, number, LONG, done);
+            parts[number as usize].iter().try_for_each(|record| of_record(&mut part, record, tally))
         })?;
         Ok(sum(&tallies))
     }
@@ -84,12 +87,12 @@ impl Run {
     pub fn exhaustive(&self) -> Result<Tally, String> {
         let firsts = if self.until.is_none() { 256 } else { 0 };
         let work = Work { name: "exhaustive", parts: 2 * (firsts + 1), until: None };
-        let tallies = work.run(|part, tally: &mut Tally, done| {
-            let mut hand = self.hand(work.name, part, AMPLE, done);
-            let locals = if part % 2 == 0 { inputs::NONE } else { inputs::L };
+        let tallies = work.run(|number, tally: &mut Tally, done| {
+            let mut part = self.part(work.name, number, AMPLE, done);
+            let locals = if number % 2 == 0 { inputs::NONE } else { inputs::L };
             let lists = Lists::new(inputs::NONE, locals);
-            let first = (part / 2).checked_sub(1).map(|first| first as u8);
-            strings(first, |string| hand.case(&lists, string, tally))
+            let first = (number / 2).checked_sub(1).map(|first| first as u8);
+            strings(first, |string| part.case(&lists, string, tally))
         })?;
         Ok(sum(&tallies))
     }
@@ -99,59 +102,57 @@ impl Run {
         let parts = if self.until.is_some() { u64::MAX } else { cases.div_ceil(STRUCTURED) };
         let until = self.until.map(|until| until.max(Instant::now() + LEAST_TIME));
         let work = Work { name: "random and damaged", parts, until };
-        let tallies = work.run(|part, tallies: &mut [Tally; 2], done| {
-            let mut hand = self.hand(work.name, part, AMPLE, done);
-            for number in 0..STRUCTURED + DAMAGED {
-                let hurt = number >= STRUCTURED;
-                let mut case = structured(&mut hand.random);
+        let tallies = work.run(|number, tallies: &mut [Tally; 2], done| {
+            let mut part = self.part(work.name, number, AMPLE, done);
+            for i in 0..STRUCTURED + DAMAGED {
+                let hurt = i >= STRUCTURED;
+                let mut case = structured(&mut part.random);
                 if hurt {
-                    case = damaged(case, &mut hand.random);
+                    case = damaged(case, &mut part.random);
                 }
                 let lists = Lists::new(&case.globals, &case.locals);
-                hand.case(&lists, &case.charstring, &mut tallies[usize::from(hurt)])?;
+                part.case(&lists, &case.charstring, &mut tallies[usize::from(hurt)])?;
             }
             Ok(())
         })?;
-        Ok([0, 1].map(|kind| {
-            sum(&tallies.iter().map(|tallies| tallies[kind].clone()).collect::<Vec<_>>())
-        }))
+        Ok([0, 1].map(|kind| sum(tallies.iter().map(|tallies| &tallies[kind]))))
     }
 
     /// The glyphs of the fonts in these folders, at most so many of a font, and how many fonts there were.
     pub fn fonts(&self, folders: &[PathBuf], most: usize) -> Result<(Tally, usize), String> {
         let files = fonts::files(folders);
         let work = Work { name: "fonts", parts: files.len() as u64, until: None };
-        let tallies = work.run(|part, (tally, count): &mut (Tally, usize), done| {
-            let path = &files[part as usize];
+        let tallies = work.run(|number, (tally, count): &mut (Tally, usize), done| {
+            let path = &files[number as usize];
             let found = fonts::read(path).map_err(|why| format!("{}: {why}", path.display()))?;
             *count += found.len();
             found.iter().try_for_each(|font| {
-                let mut hand = self.hand(&format!("the font {}", font.name), part, LONG, done);
-                of_font(&mut hand, font, most, tally)
+                let mut part = self.part(&format!("the font {}", font.name), number, LONG, done);
+                of_font(&mut part, font, most, tally)
             })
         })?;
         let count = tallies.iter().map(|(_, count)| count).sum();
-        Ok((sum(&tallies.into_iter().map(|(tally, _)| tally).collect::<Vec<_>>()), count))
+        Ok((sum(tallies.iter().map(|(tally, _)| tally)), count))
     }
 }
 
-fn of_record(hand: &mut Hand, record: &Record, tally: &mut Tally) -> Result<(), String> {
+fn of_record(part: &mut Part, record: &Record, tally: &mut Tally) -> Result<(), String> {
     let asked = flattening::read(&mut Arguments::new(&record[1..]));
     let (asked, room) = asked.expect("the list has only sound records");
     let lists = Lists::new(asked.globals, asked.locals);
-    hand.case(&lists, asked.charstring, tally)?;
-    let alone = hand.comparison.alone(asked, room);
-    alone.map_err(|difference| described(&mut hand.comparison, &difference))
+    part.case(&lists, asked.charstring, tally)?;
+    let same = part.comparison.alone(asked, room);
+    same.map_err(|difference| part.described(&difference))
 }
 
-fn of_font(hand: &mut Hand, font: &Font, most: usize, tally: &mut Tally) -> Result<(), String> {
+fn of_font(part: &mut Part, font: &Font, most: usize, tally: &mut Tally) -> Result<(), String> {
     let step = font.glyphs().count().div_ceil(most).max(1);
     let mut lists = HashMap::new();
     for glyph in font.glyphs().step_by(step) {
         let lists = lists
             .entry(glyph.locals.as_ptr())
             .or_insert_with(|| Lists::new(glyph.globals, glyph.locals));
-        hand.case(lists, glyph.charstring, tally)?;
+        part.case(lists, glyph.charstring, tally)?;
     }
     Ok(())
 }
@@ -174,8 +175,8 @@ fn strings(
     Ok(())
 }
 
-fn sum(tallies: &[Tally]) -> Tally {
+fn sum<'a>(tallies: impl IntoIterator<Item = &'a Tally>) -> Tally {
     let mut all = Tally::default();
-    tallies.iter().for_each(|tally| all.add(tally));
+    tallies.into_iter().for_each(|tally| all.add(tally));
     all
 }

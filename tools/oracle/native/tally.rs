@@ -5,7 +5,7 @@ use crate::flattening::rules::{Met, Verdict};
 /// The answers of flattening, 0 to 13.
 const ANSWERS: usize = 14;
 
-#[derive(Clone, Default)]
+#[derive(Default)]
 pub struct Tally {
     /// Charstrings, by the answer in the plain profile with all that they need.
     cases: [u64; ANSWERS],
