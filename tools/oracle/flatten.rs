@@ -122,10 +122,16 @@ fn everything(options: &Options) -> Result<(), Failure> {
     let mut seconds = || std::mem::replace(&mut start, Instant::now()).elapsed().as_secs();
 
     run.listed().map_err(Failure::Difference)?.report("listed", seconds());
-    run.exhaustive().map_err(Failure::Difference)?.report("exhaustive", seconds());
     let most = if full { usize::MAX } else { SAMPLED_GLYPHS };
     let (glyphs, fonts) = run.fonts(&options.folders, most).map_err(Failure::Difference)?;
     glyphs.report(&format!("glyphs of {fonts} fonts"), seconds());
+    if fonts == 0 {
+        println!("{NO_FONTS}{}", fonts::PACKAGES);
+    }
+    if full && fonts == 0 {
+        return Err(Failure::Lacking("a full run takes fonts".into()));
+    }
+    run.exhaustive().map_err(Failure::Difference)?.report("exhaustive", seconds());
     let [mut random, damaged] = run.random(options.cases).map_err(Failure::Difference)?;
     let spent = seconds();
     random.report("random", spent);
@@ -135,10 +141,6 @@ fn everything(options: &Options) -> Result<(), Failure> {
     let mut lacks = random.lacks(if full { LEAST } else { 1 });
     random.add(&damaged);
     lacks.extend(random.missing());
-    if fonts == 0 {
-        println!("{NO_FONTS}{}", fonts::PACKAGES);
-        lacks.extend(full.then(|| "a full run takes fonts".to_string()));
-    }
     if lacks.is_empty() {
         Ok(())
     } else {
