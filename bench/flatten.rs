@@ -4,6 +4,8 @@
 #[path = "../tools/oracle/fonts.rs"]
 mod fonts;
 mod hostile;
+#[path = "../tools/oracle/library.rs"]
+mod library;
 mod sides;
 mod timing;
 

@@ -1,27 +1,18 @@
 //! Reading an INDEX of 30,000 entries, its entries, and whether it is well formed: ours and the
 //! unchanged Rust in one process, in turns, the best of many passes.
 
+#[path = "../tools/oracle/library.rs"]
+mod library;
 mod timing;
 
+use library::{ighzamrel_read_entry, ighzamrel_read_index};
 use std::hint::black_box;
 use std::process::ExitCode;
 use subsetter::cff::index::{parse_index, Index};
 use subsetter::read::Reader;
 
 unsafe extern "C" {
-    fn ighzamrel_read_index(
-        bytes: *const u8,
-        len: usize,
-        count: &mut u32,
-        taken: &mut usize,
-    ) -> u32;
-    fn ighzamrel_read_entry(
-        bytes: *const u8,
-        len: usize,
-        number: u32,
-        place: &mut usize,
-        length: &mut usize,
-    ) -> u32;
+    /// No C function of the product; `run` exports it.
     fn bench_well_formed(bytes: *const u8, len: usize) -> u32;
 }
 

@@ -1,34 +1,20 @@
 //! Reading and writing the numbers of a charstring: ours and the unchanged Rust in one process, in turns, the best
 //! of many passes.
 
+#[path = "../tools/oracle/library.rs"]
+mod library;
 #[path = "../tools/oracle/random.rs"]
 #[allow(dead_code)]
 mod random;
 mod timing;
 
+use library::{ighzamrel_read_charstring_number, ighzamrel_write_charstring_number};
 use random::Random;
 use std::hint::black_box;
 use std::process::ExitCode;
 use subsetter::cff::number::Number;
 use subsetter::read::Reader;
 use subsetter::write::Writer;
-
-unsafe extern "C" {
-    fn ighzamrel_read_charstring_number(
-        bytes: *const u8,
-        bytes_len: usize,
-        kind: &mut u32,
-        value: &mut i32,
-        width: &mut usize,
-    ) -> u32;
-    fn ighzamrel_write_charstring_number(
-        kind: u32,
-        value: i32,
-        out: *mut u8,
-        out_len: usize,
-        length: &mut usize,
-    ) -> u32;
-}
 
 const NUMBERS: usize = 10_000;
 const PASSES: u32 = 200;

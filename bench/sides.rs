@@ -1,29 +1,11 @@
 //! Flattening by the two sides.
 
 use crate::fonts::Glyph;
+use crate::library::{ighzamrel_flatten, PLAIN};
 use subsetter::cff::charstring::{CharString, Decompiler};
 use subsetter::cff::index::parse_index;
 use subsetter::cff::subroutines::SubroutineHandler;
 use subsetter::read::Reader;
-
-unsafe extern "C" {
-    fn ighzamrel_flatten(
-        charstring: *const u8,
-        charstring_len: usize,
-        globals: *const u8,
-        globals_len: usize,
-        locals: *const u8,
-        locals_len: usize,
-        profile: u32,
-        budget: u32,
-        out: *mut u8,
-        out_len: usize,
-        length: &mut usize,
-        tokens: &mut u32,
-    ) -> u32;
-}
-
-const PLAIN: u32 = 0;
 
 /// What ours answers: the number, the length and the tokens.
 #[derive(Clone, Copy)]

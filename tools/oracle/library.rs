@@ -2,7 +2,38 @@
 #![allow(dead_code)]
 
 unsafe extern "C" {
+    pub fn ighzamrel_read_charstring_number(
+        bytes: *const u8,
+        size: usize,
+        kind: *mut u32,
+        value: *mut i32,
+        width: *mut usize,
+    ) -> u32;
+
+    pub fn ighzamrel_write_charstring_number(
+        kind: u32,
+        value: i32,
+        out: *mut u8,
+        room: usize,
+        length: *mut usize,
+    ) -> u32;
+
     pub fn ighzamrel_call_index(kind: u32, value: i32, profile: u32, index: *mut i32) -> u32;
+
+    pub fn ighzamrel_read_index(
+        bytes: *const u8,
+        size: usize,
+        count: *mut u32,
+        taken: *mut usize,
+    ) -> u32;
+
+    pub fn ighzamrel_read_entry(
+        bytes: *const u8,
+        size: usize,
+        number: u32,
+        place: *mut usize,
+        length: *mut usize,
+    ) -> u32;
 
     pub fn ighzamrel_write_index(
         lengths: *const u32,
