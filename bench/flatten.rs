@@ -6,11 +6,14 @@ mod fonts;
 mod hostile;
 #[path = "../tools/oracle/library.rs"]
 mod library;
-mod sides;
+#[path = "../tools/oracle/flattening/lists.rs"]
+mod lists;
+mod ours;
 mod timing;
 
 use fonts::{Font, Glyph};
-use sides::{ours, rust, Lists};
+use lists::Lists;
+use ours::ours;
 use std::hint::black_box;
 use std::path::PathBuf;
 use std::process::ExitCode;
@@ -111,18 +114,18 @@ fn of_font(font: &Font) -> Result<Times, String> {
     for glyph in font.glyphs().step_by(step) {
         let known = lists.iter().position(|(locals, _)| locals.as_ptr() == glyph.locals.as_ptr());
         let which = known.unwrap_or_else(|| {
-            lists.push((glyph.locals, Lists::of(&glyph)));
+            lists.push((glyph.locals, Lists::read(glyph.globals, glyph.locals)));
             lists.len() - 1
         });
         let answer = ours(&glyph, AMPLE, &mut out);
-        let flat = rust(glyph.charstring, &lists[which].1);
+        let flat = lists[which].1.flattened(glyph.charstring);
         match flat {
-            Some(flat) if answer.number == 0 && flat[..] == out[..answer.length] => {
+            Ok(flat) if answer.number == 0 && flat[..] == out[..answer.length] => {
                 tokens += u64::from(answer.tokens);
                 timed.push((glyph, which));
             }
             // what both refuse is not timed
-            None if answer.number != 0 => {}
+            Err(_) if answer.number != 0 => {}
             _ => return Err(format!("{}: the two sides differ", font.name)),
         }
     }
@@ -149,7 +152,7 @@ fn best_of_three(timed: &[(Glyph, usize)], lists: &[(&[u8], Lists)], out: &mut [
             },
             &mut || {
                 for (glyph, which) in timed {
-                    black_box(rust(black_box(glyph.charstring), &lists[*which].1));
+                    let _ = black_box(lists[*which].1.flattened(black_box(glyph.charstring)));
                 }
             },
         ],

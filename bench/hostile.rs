@@ -1,7 +1,7 @@
 //! Strings that are made to cost. Their time must follow the tokens, the room and the lists, and nothing else.
 
 use crate::fonts::Glyph;
-use crate::sides::ours;
+use crate::ours::ours;
 use crate::timing::best_of;
 use std::hint::black_box;
 

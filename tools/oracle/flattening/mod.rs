@@ -3,6 +3,7 @@
 //! tokens and room are the rule's alone.
 
 pub mod inputs;
+mod lists;
 pub mod rules;
 pub mod source;
 
