@@ -11,3 +11,4 @@ mod token;
 pub use crate::flattening::Measured;
 pub use crate::flattening::flatten;
 pub use crate::flattening::measure;
+pub use crate::flattening::write;
