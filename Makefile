@@ -3,10 +3,14 @@ SECONDS =
 SOURCES = ../shared
 export SOURCES
 
-.PHONY: test list differential faults fixed bench clean
+.PHONY: test lib list differential faults fixed bench clean
 
 test:
 	@tools/test $(or $(SECONDS),60)
+
+# what a user links, under target/lib: the proved archive, the header and a pkg-config file
+lib:
+	@tools/lib
 
 # the stored list of the program `cases`, made anew from the Rust's answers and document 01's rules
 list:
