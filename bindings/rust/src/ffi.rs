@@ -1,0 +1,193 @@
+//! The nine C functions, each behind a safe function that lends it slices and places of its own.
+//!
+//! What include/ighzamrel.h asks of pointers holds of what is lent here: a slice's pointer is valid for its length,
+//! aligned and never null, also where it is empty; `out` is borrowed alone, and the places are locals.
+//! A value whose place the answer leaves as it was is 0; the caller knows by the answer which those are.
+#![allow(unsafe_code)]
+
+mod c {
+    extern "C" {
+        pub fn ighzamrel_read_charstring_number(
+            bytes: *const u8,
+            bytes_len: usize,
+            kind: *mut u32,
+            value: *mut i32,
+            width: *mut usize,
+        ) -> u32;
+
+        pub fn ighzamrel_read_dict_integer(
+            bytes: *const u8,
+            bytes_len: usize,
+            value: *mut i32,
+            width: *mut usize,
+        ) -> u32;
+
+        pub fn ighzamrel_write_charstring_number(
+            kind: u32,
+            value: i32,
+            out: *mut u8,
+            out_len: usize,
+            length: *mut usize,
+        ) -> u32;
+
+        pub fn ighzamrel_write_dict_integer(
+            value: i32,
+            out: *mut u8,
+            out_len: usize,
+            length: *mut usize,
+        ) -> u32;
+
+        pub fn ighzamrel_call_index(kind: u32, value: i32, profile: u32, index: *mut i32) -> u32;
+
+        pub fn ighzamrel_read_index(
+            bytes: *const u8,
+            bytes_len: usize,
+            count: *mut u32,
+            taken: *mut usize,
+        ) -> u32;
+
+        pub fn ighzamrel_read_entry(
+            bytes: *const u8,
+            bytes_len: usize,
+            number: u32,
+            place: *mut usize,
+            length: *mut usize,
+        ) -> u32;
+
+        pub fn ighzamrel_write_index(
+            lengths: *const u32,
+            lengths_len: usize,
+            data: *const u8,
+            data_len: usize,
+            out: *mut u8,
+            out_len: usize,
+            length: *mut usize,
+        ) -> u32;
+
+        pub fn ighzamrel_flatten(
+            charstring: *const u8,
+            charstring_len: usize,
+            globals: *const u8,
+            globals_len: usize,
+            locals: *const u8,
+            locals_len: usize,
+            profile: u32,
+            budget: u32,
+            out: *mut u8,
+            out_len: usize,
+            length: *mut usize,
+            tokens: *mut u32,
+        ) -> u32;
+    }
+}
+
+/// The answer, then kind, value and width.
+pub fn read_charstring_number(bytes: &[u8]) -> (u32, u32, i32, usize) {
+    let (mut kind, mut value, mut width) = (0, 0, 0);
+    let answer = unsafe {
+        c::ighzamrel_read_charstring_number(
+            bytes.as_ptr(),
+            bytes.len(),
+            &mut kind,
+            &mut value,
+            &mut width,
+        )
+    };
+    (answer, kind, value, width)
+}
+
+/// The answer, then value and width.
+pub fn read_dict_integer(bytes: &[u8]) -> (u32, i32, usize) {
+    let (mut value, mut width) = (0, 0);
+    let answer = unsafe {
+        c::ighzamrel_read_dict_integer(bytes.as_ptr(), bytes.len(), &mut value, &mut width)
+    };
+    (answer, value, width)
+}
+
+/// The answer, then the length.
+pub fn write_charstring_number(kind: u32, value: i32, out: &mut [u8]) -> (u32, usize) {
+    let mut length = 0;
+    let answer = unsafe {
+        c::ighzamrel_write_charstring_number(kind, value, out.as_mut_ptr(), out.len(), &mut length)
+    };
+    (answer, length)
+}
+
+/// The answer, then the length.
+pub fn write_dict_integer(value: i32, out: &mut [u8]) -> (u32, usize) {
+    let mut length = 0;
+    let answer =
+        unsafe { c::ighzamrel_write_dict_integer(value, out.as_mut_ptr(), out.len(), &mut length) };
+    (answer, length)
+}
+
+/// The answer, then the index.
+pub fn call_index(kind: u32, value: i32, profile: u32) -> (u32, i32) {
+    let mut index = 0;
+    let answer = unsafe { c::ighzamrel_call_index(kind, value, profile, &mut index) };
+    (answer, index)
+}
+
+/// The answer, then count and bytes taken.
+pub fn read_index(bytes: &[u8]) -> (u32, u32, usize) {
+    let (mut count, mut taken) = (0, 0);
+    let answer =
+        unsafe { c::ighzamrel_read_index(bytes.as_ptr(), bytes.len(), &mut count, &mut taken) };
+    (answer, count, taken)
+}
+
+/// The answer, then place and length.
+pub fn read_entry(bytes: &[u8], number: u32) -> (u32, usize, usize) {
+    let (mut place, mut length) = (0, 0);
+    let answer = unsafe {
+        c::ighzamrel_read_entry(bytes.as_ptr(), bytes.len(), number, &mut place, &mut length)
+    };
+    (answer, place, length)
+}
+
+/// The answer, then the length.
+pub fn write_index(lengths: &[u32], data: &[u8], out: &mut [u8]) -> (u32, usize) {
+    let mut length = 0;
+    let answer = unsafe {
+        c::ighzamrel_write_index(
+            lengths.as_ptr(),
+            lengths.len(),
+            data.as_ptr(),
+            data.len(),
+            out.as_mut_ptr(),
+            out.len(),
+            &mut length,
+        )
+    };
+    (answer, length)
+}
+
+/// The answer, then length and tokens.
+pub fn flatten(
+    charstring: &[u8],
+    globals: &[u8],
+    locals: &[u8],
+    profile: u32,
+    budget: u32,
+    out: &mut [u8],
+) -> (u32, usize, u32) {
+    let (mut length, mut tokens) = (0, 0);
+    let answer = unsafe {
+        c::ighzamrel_flatten(
+            charstring.as_ptr(),
+            charstring.len(),
+            globals.as_ptr(),
+            globals.len(),
+            locals.as_ptr(),
+            locals.len(),
+            profile,
+            budget,
+            out.as_mut_ptr(),
+            out.len(),
+            &mut length,
+            &mut tokens,
+        )
+    };
+    (answer, length, tokens)
+}

@@ -1,0 +1,66 @@
+//! Type 2 charstrings of a CFF font made flat: one string without calls for each glyph, and the numbers and INDEXes
+//! that charstrings stand in.
+//!
+//! This is a thin safe layer over the nine functions of Ighzamrel's static library. Each takes any bytes, ends, and either
+//! accepts or gives one numbered [`Refusal`]; what each answers is proved. They keep no state, and but for
+//! [`flatten_to_vec`] allocate nothing; any threads may call at once.
+//!
+//! ```
+//! use ighzamrel::{flatten_to_vec, Profile, Refusal, EMPTY_INDEX};
+//!
+//! // -107 callsubr endchar: a call of entry 0 of the local list, which is 1 2 rmoveto return
+//! let charstring = [0x20, 0x0A, 0x0E];
+//! let locals = [0x00, 0x01, 0x01, 0x01, 0x05, 0x8C, 0x8D, 0x15, 0x0B];
+//! let (budget, room) = (100_000, 65_536);
+//!
+//! let flat = flatten_to_vec(&charstring, EMPTY_INDEX, &locals, Profile::Plain, budget, room)?;
+//! assert_eq!(flat.bytes, [0x8C, 0x8D, 0x15, 0x0E]);
+//! assert_eq!(flat.tokens, 7);
+//!
+//! let refused = flatten_to_vec(&charstring, EMPTY_INDEX, EMPTY_INDEX, Profile::Plain, budget, room).unwrap_err();
+//! assert_eq!(refused.refusal, Refusal::NoEntry);
+//! assert_eq!(refused.to_string(), "refusal 9: a call of a subroutine that is not there (after 2 tokens)");
+//! # Ok::<(), ighzamrel::Refused>(())
+//! ```
+//!
+//! # Panics
+//!
+//! No function panics with the archive of its own version. With another one, a refusal that this crate does not know
+//! does, and says so; [`flatten_to_vec`] aborts as any `Vec` does where memory lacks for the bytes that `room` lets it
+//! have.
+#![deny(missing_docs)]
+#![deny(unsafe_code)]
+
+mod ffi;
+mod flattening;
+mod index;
+mod number;
+mod refusal;
+
+pub use flattening::{flatten, flatten_to_vec, Flat, FlatVec};
+pub use index::{read_entry, read_index, write_index, Index, EMPTY_INDEX};
+pub use number::{
+    call_index, read_charstring_number, read_dict_integer, write_charstring_number,
+    write_dict_integer, Operand, Read,
+};
+pub use refusal::{NoRefusal, Refusal, Refused};
+
+/// The rules to run by.
+#[derive(Clone, Copy, Debug, Default, PartialEq, Eq, Hash)]
+pub enum Profile {
+    /// What the Rust crate subsetter does: calls 64 strings deep, 65,535 hints, an index by 32-bit floats.
+    #[default]
+    Plain,
+    /// Adobe's Technical Note 5177: calls 11 strings deep, 96 hints, an index that is exactly whole.
+    Strict,
+}
+
+impl Profile {
+    /// The profile as the library takes it.
+    fn number(self) -> u32 {
+        match self {
+            Profile::Plain => 0,
+            Profile::Strict => 1,
+        }
+    }
+}

@@ -1,0 +1,216 @@
+use crate::{alone, lent, BLANK};
+use ighzamrel::Profile::{Plain, Strict};
+use ighzamrel::*;
+
+/// Document 01's local list.
+const L: &[u8] = &[0x00, 0x01, 0x01, 0x01, 0x05, 0x8C, 0x8D, 0x15, 0x0B];
+const AMPLE: u32 = 1000;
+const ROOM: usize = 64;
+
+/// A refusal of a run.
+fn run(refusal: Refusal, tokens: u32) -> Refused {
+    Refused {
+        tokens: Some(tokens),
+        ..alone(refusal)
+    }
+}
+
+type Bytes = &'static [u8];
+
+/// Each charstring with its local list, the flat string and the tokens.
+const ACCEPTED: [(Bytes, Bytes, Bytes, u32); 11] = [
+    (&[], EMPTY_INDEX, &[], 0),
+    (&[0x20, 0x0A, 0x0E], L, &[0x8C, 0x8D, 0x15, 0x0E], 7),
+    (
+        &[0xFF, 0xFF, 0x95, 0x00, 0x00, 0x0A, 0x0E],
+        L,
+        &[0x8C, 0x8D, 0x15, 0x0E],
+        7,
+    ),
+    (&[0x1C, 0x00, 0x05, 0x0E], EMPTY_INDEX, &[0x90, 0x0E], 2),
+    (&[0x0B, 0x00], EMPTY_INDEX, &[], 1),
+    (
+        &[0x21, 0x20, 0x0A, 0x0E],
+        &[0x00, 0x02, 0x01, 0x01, 0x02, 0x04, 0x0A, 0x8C, 0x16],
+        &[0x8C, 0x16, 0x0E],
+        7,
+    ),
+    (
+        &[0x20, 0x0A, 0x00],
+        &[0x00, 0x01, 0x01, 0x01, 0x02, 0x0E],
+        &[0x0E],
+        3,
+    ),
+    (
+        &[0x8B, 0x8C, 0x01, 0x8B, 0x8C, 0x13, 0x80, 0x0E],
+        EMPTY_INDEX,
+        &[0x8B, 0x8C, 0x01, 0x8B, 0x8C, 0x13, 0x80, 0x0E],
+        7,
+    ),
+    (&[0x13, 0x0E], EMPTY_INDEX, &[0x13, 0x0E], 2),
+    (
+        &[0x8B, 0x8B, 0x8B, 0x0E],
+        EMPTY_INDEX,
+        &[0x8B, 0x8B, 0x8B, 0x0E],
+        4,
+    ),
+    (&[0x20, 0x0A], L, &[0x8C, 0x8D, 0x15], 6),
+];
+
+/// Each charstring with its local list, the refusal and the tokens.
+const REFUSED: [(Bytes, Bytes, Refusal, u32); 8] = [
+    (
+        &[0x8B, 0x8B, 0x8B, 0x8B, 0x0E],
+        EMPTY_INDEX,
+        Refusal::Composite,
+        5,
+    ),
+    (
+        &[0x8B, 0x8C, 0x01, 0x13, 0x80, 0x20, 0x13, 0x80, 0x0A],
+        L,
+        Refusal::IndexNotLast,
+        7,
+    ),
+    (
+        &[0x20, 0x0A],
+        &[0x00, 0x01, 0x01, 0x01, 0x03, 0x20, 0x0A],
+        Refusal::TooDeep,
+        128,
+    ),
+    (&[0x00], EMPTY_INDEX, Refusal::Unknown, 1),
+    (&[0x20, 0x0A, 0x0E], EMPTY_INDEX, Refusal::NoEntry, 2),
+    (&[0x8B, 0x1C, 0x00], EMPTY_INDEX, Refusal::BytesLacking, 2),
+    (&[0x8B; 49], EMPTY_INDEX, Refusal::TooManyOperands, 49),
+    (&[0x0A], L, Refusal::NoIndex, 1),
+];
+
+#[test]
+fn accepted_rows_change_only_their_bytes() {
+    for (charstring, locals, flat, tokens) in ACCEPTED {
+        let length = flat.len();
+        for room in [ROOM, length] {
+            let answer = lent(room, |out| {
+                flatten(charstring, EMPTY_INDEX, locals, Plain, AMPLE, out)
+            });
+            let mut bytes = vec![BLANK; room];
+            bytes[..length].copy_from_slice(flat);
+            assert_eq!(
+                answer,
+                (Ok(Flat { length, tokens }), bytes),
+                "{charstring:02X?}"
+            );
+        }
+        let bytes = flat.to_vec();
+        let answer = flatten_to_vec(charstring, EMPTY_INDEX, locals, Plain, tokens, length);
+        assert_eq!(answer, Ok(FlatVec { bytes, tokens }), "{charstring:02X?}");
+    }
+}
+
+#[test]
+fn accepted_rows_without_room_give_their_length_and_tokens() {
+    for (charstring, locals, flat, tokens) in ACCEPTED {
+        let refused = Refused {
+            refusal: Refusal::Short,
+            needed: Some(flat.len()),
+            tokens: Some(tokens),
+        };
+        for room in 0..flat.len() {
+            let answer = lent(room, |out| {
+                flatten(charstring, EMPTY_INDEX, locals, Plain, AMPLE, out)
+            });
+            assert_eq!(
+                answer,
+                (Err(refused), vec![BLANK; room]),
+                "{charstring:02X?}"
+            );
+            let answer = flatten_to_vec(charstring, EMPTY_INDEX, locals, Plain, AMPLE, room);
+            assert_eq!(answer, Err(refused), "{charstring:02X?}");
+        }
+    }
+}
+
+#[test]
+fn rows_without_budget_are_refused_with_it() {
+    let accepted = ACCEPTED.map(|(charstring, locals, _, tokens)| (charstring, locals, tokens));
+    let refused = REFUSED.map(|(charstring, locals, _, tokens)| (charstring, locals, tokens));
+    for (charstring, locals, tokens) in accepted.into_iter().chain(refused) {
+        for budget in 0..tokens {
+            let answer = flatten_to_vec(charstring, EMPTY_INDEX, locals, Plain, budget, ROOM);
+            assert_eq!(
+                answer,
+                Err(run(Refusal::BudgetSpent, budget)),
+                "{charstring:02X?}"
+            );
+        }
+    }
+}
+
+#[test]
+fn refused_rows_change_no_byte() {
+    for (charstring, locals, refusal, tokens) in REFUSED {
+        let refused = run(refusal, tokens);
+        let answer = lent(ROOM, |out| {
+            flatten(charstring, EMPTY_INDEX, locals, Plain, AMPLE, out)
+        });
+        assert_eq!(
+            answer,
+            (Err(refused), vec![BLANK; ROOM]),
+            "{charstring:02X?}"
+        );
+        let answer = flatten_to_vec(charstring, EMPTY_INDEX, locals, Plain, AMPLE, ROOM);
+        assert_eq!(answer, Err(refused), "{charstring:02X?}");
+    }
+}
+
+#[test]
+fn a_damaged_list_is_refused_before_anything_runs() {
+    let flat = |globals, locals| flatten_to_vec(&[0x0E], globals, locals, Plain, 0, ROOM);
+    assert_eq!(flat(&[], &[]), Err(alone(Refusal::BadGlobals)));
+    assert_eq!(flat(&L[..8], EMPTY_INDEX), Err(alone(Refusal::BadGlobals)));
+    assert_eq!(flat(EMPTY_INDEX, &L[..8]), Err(alone(Refusal::BadLocals)));
+}
+
+#[test]
+fn global_and_local_lists_are_not_swapped() {
+    let called = |call| flatten_to_vec(&[0x20, call], L, EMPTY_INDEX, Plain, AMPLE, ROOM);
+    let bytes = vec![0x8C, 0x8D, 0x15];
+    assert_eq!(called(0x1D), Ok(FlatVec { bytes, tokens: 6 }));
+    assert_eq!(called(0x0A), Err(run(Refusal::NoEntry, 2)));
+}
+
+#[test]
+fn strict_has_limits_of_its_own() {
+    let strict =
+        |charstring, locals| flatten_to_vec(charstring, EMPTY_INDEX, locals, Strict, AMPLE, ROOM);
+    let (deep, itself) = (&[0x20, 0x0A], &[0x00, 0x01, 0x01, 0x01, 0x03, 0x20, 0x0A]);
+    assert_eq!(strict(deep, itself), Err(run(Refusal::TooDeep, 22)));
+
+    let stems = [&[0x8B; 48][..], &[0x01]].concat().repeat(4);
+    let mask = [&stems[..], &[0x8B, 0x8B, 0x13]].concat();
+    assert_eq!(
+        strict(&mask, EMPTY_INDEX),
+        Err(run(Refusal::TooManyHints, 199))
+    );
+}
+
+/// Forty subroutines of which each calls the next twice: the last would run 549,755,813,888 times.
+#[test]
+fn the_budget_ends_what_would_not_end() {
+    let bodies = (0..40u8).map(|i| match i {
+        39 => vec![0x0B],
+        _ => [0x21 + i, 0x0A, 0x21 + i, 0x0A, 0x0B].to_vec(),
+    });
+    let bodies: Vec<Vec<u8>> = bodies.collect();
+    let lengths: Vec<u32> = bodies.iter().map(|body| body.len() as u32).collect();
+    let mut locals = vec![0; 1024];
+    let length = write_index(&lengths, &bodies.concat(), &mut locals).unwrap();
+    let answer = flatten_to_vec(
+        &[0x20, 0x0A],
+        EMPTY_INDEX,
+        &locals[..length],
+        Plain,
+        100_000,
+        ROOM,
+    );
+    assert_eq!(answer, Err(run(Refusal::BudgetSpent, 100_000)));
+}
