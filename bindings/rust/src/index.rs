@@ -42,7 +42,8 @@ pub fn read_entry(bytes: &[u8], number: u32) -> Result<Range<usize>, Refusal> {
     told(answer, place..place + length)
 }
 
-/// Writes the INDEX of elements of these lengths, joined in `data`, to the start of `out`, and answers how many bytes it is.
+/// Writes the INDEX of elements of these lengths, joined in `data`, to the start of `out`, and answers how many bytes
+/// it is.
 ///
 /// Refused with [`Refusal::TooManyElements`], [`Refusal::TooLong`], [`Refusal::LengthsMismatch`] or [`Refusal::Short`].
 pub fn write_index(lengths: &[u32], data: &[u8], out: &mut [u8]) -> Result<usize, Refused> {

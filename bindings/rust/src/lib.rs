@@ -1,8 +1,8 @@
 //! Type 2 charstrings of a CFF font made flat: one string without calls for each glyph, and the numbers and INDEXes
 //! that charstrings stand in.
 //!
-//! This is a thin safe layer over the nine functions of Ighzamrel's static library. Each takes any bytes, ends, and either
-//! accepts or gives one numbered [`Refusal`]; what each answers is proved. They keep no state, and but for
+//! This is a thin safe layer over the nine functions of Ighzamrel's static library. Each takes any bytes, ends, and
+//! either accepts or gives one numbered [`Refusal`]; what each answers is proved. They keep no state, and but for
 //! [`flatten_to_vec`] allocate nothing; any threads may call at once.
 //!
 //! ```

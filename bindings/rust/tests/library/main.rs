@@ -1,6 +1,7 @@
 //! The crate on document 01's examples, its refusals and its lent bytes, and held against the C header.
 
 mod flattening;
+mod font;
 mod header;
 mod indexes;
 mod numbers;

@@ -1,0 +1,182 @@
+//! The example `font` on fonts that are made here, whole and damaged.
+
+#[allow(dead_code)]
+#[path = "../../examples/font.rs"]
+mod example;
+
+use example::{count, Counts};
+use ighzamrel::{write_index, Profile, Refusal};
+use std::collections::BTreeMap;
+
+fn index(elements: &[&[u8]]) -> Vec<u8> {
+    let lengths: Vec<u32> = elements
+        .iter()
+        .map(|element| element.len() as u32)
+        .collect();
+    let mut out = vec![0; 1000];
+    let length = write_index(&lengths, &elements.concat(), &mut out).unwrap();
+    out.truncate(length);
+    out
+}
+
+/// An operator of a DICT with its operands, each in five bytes, so that its length does not depend on them.
+fn entry(operands: &[usize], operator: &[u8]) -> Vec<u8> {
+    let mut bytes = Vec::new();
+    for &operand in operands {
+        bytes.push(29);
+        bytes.extend((operand as u32).to_be_bytes());
+    }
+    [&bytes, operator].concat()
+}
+
+/// An OpenType file with this one table.
+fn file(tag: &[u8; 4], table: &[u8]) -> Vec<u8> {
+    let length = (table.len() as u32).to_be_bytes();
+    let record = [&tag[..], &[0; 4], &28u32.to_be_bytes(), &length].concat();
+    [b"OTTO", &[0, 1, 0, 0, 0, 0, 0, 0][..], &record, table].concat()
+}
+
+const REAL: [u8; 6] = [30, 0x0A, 0x00, 0x1F, 12, 7];
+
+/// -107 callsubr endchar, endchar, and an operator that is none.
+const GLYPHS: [&[u8]; 3] = [&[0x20, 0x0A, 0x0E], &[0x0E], &[0x00]];
+
+/// A Private DICT, and behind it the list that has this one subroutine.
+fn private(subroutine: &[u8]) -> Vec<u8> {
+    [entry(&[6], &[19]), index(&[subroutine])].concat()
+}
+
+/// A CFF table up to its Global Subr INDEX.
+fn head(top: &[u8]) -> Vec<u8> {
+    [
+        &[1, 0, 4, 1][..],
+        &index(&[b"A"]),
+        &index(&[top]),
+        &index(&[]),
+        &index(&[]),
+    ]
+    .concat()
+}
+
+fn plain_font() -> Vec<u8> {
+    let top = |glyphs, private| {
+        [
+            &REAL[..],
+            &entry(&[glyphs], &[17]),
+            &entry(&[6, private], &[18]),
+        ]
+        .concat()
+    };
+    let start = head(&top(0, 0)).len();
+    let glyphs = index(&GLYPHS);
+    let head = head(&top(start, start + glyphs.len()));
+    file(
+        b"CFF ",
+        &[head, glyphs, private(&[0x8C, 0x8D, 0x15, 0x0B])].concat(),
+    )
+}
+
+/// A font with two Font DICTs: the first glyph goes by the second.
+fn cid_font(select: &[u8]) -> Vec<u8> {
+    let top = |glyphs, dicts, select| {
+        let dicts = entry(&[dicts], &[12, 36]);
+        [entry(&[glyphs], &[17]), dicts, entry(&[select], &[12, 37])].concat()
+    };
+    let glyphs = index(&GLYPHS);
+    let privates = [private(&[0x0E]), private(&[0x8C, 0x16, 0x0B])];
+    let dicts = |at: usize| {
+        let second = at + privates[0].len();
+        index(&[&entry(&[6, at], &[18]), &entry(&[6, second], &[18])])
+    };
+    let first = head(&top(0, 0, 0)).len();
+    let second = first + glyphs.len();
+    let third = second + dicts(0).len();
+    let fourth = third + select.len();
+    let head = head(&top(first, second, third));
+    file(
+        b"CFF ",
+        &[
+            head,
+            glyphs,
+            dicts(fourth),
+            select.to_vec(),
+            privates.concat(),
+        ]
+        .concat(),
+    )
+}
+
+fn counts(tokens: u64, before: usize, after: usize) -> Result<Counts, String> {
+    let refused = BTreeMap::from([(Refusal::Unknown, 1)]);
+    Ok(Counts {
+        glyphs: 3,
+        tokens,
+        before,
+        after,
+        refused,
+    })
+}
+
+#[test]
+fn glyphs_are_counted() {
+    assert_eq!(count(&plain_font(), Profile::Plain), counts(9, 4, 5));
+    let text = count(&plain_font(), Profile::Strict).unwrap().to_string();
+    let lines: Vec<&str> = text.lines().map(str::trim).collect();
+    assert_eq!(
+        lines[..3],
+        [
+            "3 glyphs in 9 tokens",
+            "2 flattened: 4 bytes before, 5 after",
+            "1 refused"
+        ]
+    );
+    assert!(lines[3].starts_with("1 with refusal 6: "));
+}
+
+#[test]
+fn a_glyph_goes_by_its_own_local_list() {
+    let (each, ranges) = ([0, 1, 0, 0], [3, 0, 2, 0, 0, 1, 0, 1, 0, 0, 3]);
+    assert_eq!(count(&cid_font(&each), Profile::Plain), counts(8, 4, 4));
+    assert_eq!(count(&cid_font(&ranges), Profile::Plain), counts(8, 4, 4));
+    let why = count(&cid_font(&[0, 2, 0, 0]), Profile::Plain);
+    assert_eq!(why, Err("glyph 0 has no Font DICT".to_string()));
+}
+
+#[test]
+fn a_file_that_is_no_such_font_is_told() {
+    let why = |file: &[u8]| count(file, Profile::Plain).unwrap_err();
+    assert_eq!(why(b"GIF89a"), "it does not start as an OpenType file does");
+    assert_eq!(why(b"OTTO"), "its table directory is cut off");
+    assert_eq!(
+        why(&file(b"glyf", &[])),
+        "it has no table `CFF `; its outlines are of another kind"
+    );
+    assert_eq!(why(&file(b"CFF ", &[1, 0])), "its CFF header is cut off");
+    assert_eq!(
+        why(&file(b"CFF ", &[1, 0, 4, 1])),
+        "its Name INDEX: refusal 20: the bytes end inside an INDEX"
+    );
+    for font in [plain_font(), cid_font(&[0, 1, 0, 0])] {
+        (0..font.len()).for_each(|length| assert!(!why(&font[..length]).is_empty()));
+    }
+}
+
+#[test]
+fn damaged_fonts_are_told_or_counted() {
+    for font in [
+        plain_font(),
+        cid_font(&[0, 1, 0, 0]),
+        cid_font(&[3, 0, 1, 0, 0, 1, 0, 3]),
+    ] {
+        for (at, value) in
+            (0..font.len()).flat_map(|at| [0, 1, 4, 127, 255].map(|value| (at, value)))
+        {
+            let mut damaged = font.clone();
+            damaged[at] = value;
+            match count(&damaged, Profile::Plain) {
+                Ok(counts) => assert!(counts.refused.values().sum::<u32>() <= counts.glyphs),
+                Err(why) => assert!(!why.is_empty()),
+            }
+        }
+    }
+}
