@@ -10,7 +10,7 @@ pub const EMPTY_INDEX: &[u8] = &[0, 0];
 
 /// What stands at the start of some bytes as an INDEX.
 #[derive(Clone, Copy, Debug, PartialEq, Eq)]
-pub struct Index {
+pub struct IndexRead {
     /// How many entries it has.
     pub count: u32,
     /// How many bytes it takes.
@@ -20,9 +20,9 @@ pub struct Index {
 /// The INDEX at the start of the bytes. Bytes after it are not looked at.
 ///
 /// Refused with [`Refusal::IndexLacking`] or [`Refusal::OffsetSize`].
-pub fn read_index(bytes: &[u8]) -> Result<Index, Refusal> {
+pub fn read_index(bytes: &[u8]) -> Result<IndexRead, Refusal> {
     let (answer, count, taken) = ffi::read_index(bytes);
-    told(answer, Index { count, taken })
+    told(answer, IndexRead { count, taken })
 }
 
 /// Where entry `number`, counted from 0, of the INDEX at the start of the bytes stands in them.

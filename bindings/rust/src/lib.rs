@@ -2,8 +2,8 @@
 //! that charstrings stand in.
 //!
 //! This is a thin safe layer over the nine functions of Ighzamrel's static library. Each takes any bytes, ends, and
-//! either accepts or gives one numbered [`Refusal`]; what each answers is proved. They keep no state, and but for
-//! [`flatten_to_vec`] allocate nothing; any threads may call at once.
+//! either accepts or gives one numbered [`Refusal`]; what each answers is proved, and this layer is tested. They keep no
+//! state, and but for [`flatten_to_vec`] allocate nothing; any threads may call at once.
 //!
 //! ```
 //! use ighzamrel::{flatten_to_vec, Profile, Refusal, EMPTY_INDEX};
@@ -38,10 +38,10 @@ mod number;
 mod refusal;
 
 pub use flattening::{flatten, flatten_to_vec, Flat, FlatVec};
-pub use index::{read_entry, read_index, write_index, Index, EMPTY_INDEX};
+pub use index::{read_entry, read_index, write_index, IndexRead, EMPTY_INDEX};
 pub use number::{
     call_index, read_charstring_number, read_dict_integer, write_charstring_number,
-    write_dict_integer, Operand, Read,
+    write_dict_integer, NumberRead, Operand,
 };
 pub use refusal::{NoRefusal, Refusal, Refused};
 

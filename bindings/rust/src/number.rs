@@ -25,7 +25,7 @@ impl Operand {
 
 /// A number that was read, and how many bytes it is.
 #[derive(Clone, Copy, Debug, PartialEq, Eq)]
-pub struct Read<T> {
+pub struct NumberRead<T> {
     /// The number.
     pub number: T,
     /// How many bytes it is.
@@ -37,25 +37,25 @@ pub struct Read<T> {
 /// Refused with [`Refusal::BytesLacking`] or [`Refusal::Unknown`].
 ///
 /// ```
-/// use ighzamrel::{read_charstring_number, Operand, Read};
+/// use ighzamrel::{read_charstring_number, Operand, NumberRead};
 /// let read = read_charstring_number(&[0xFA, 0xFF, 0x0E]);
-/// assert_eq!(read, Ok(Read { number: Operand::Integer(1131), width: 2 }));
+/// assert_eq!(read, Ok(NumberRead { number: Operand::Integer(1131), width: 2 }));
 /// ```
-pub fn read_charstring_number(bytes: &[u8]) -> Result<Read<Operand>, Refusal> {
+pub fn read_charstring_number(bytes: &[u8]) -> Result<NumberRead<Operand>, Refusal> {
     let (answer, kind, value, width) = ffi::read_charstring_number(bytes);
     let number = match kind {
         0 => Operand::Integer(value),
         _ => Operand::Fixed(value),
     };
-    told(answer, Read { number, width })
+    told(answer, NumberRead { number, width })
 }
 
 /// The integer at the start of a part of a DICT.
 ///
 /// Refused with [`Refusal::BytesLacking`] or [`Refusal::Unknown`].
-pub fn read_dict_integer(bytes: &[u8]) -> Result<Read<i32>, Refusal> {
+pub fn read_dict_integer(bytes: &[u8]) -> Result<NumberRead<i32>, Refusal> {
     let (answer, number, width) = ffi::read_dict_integer(bytes);
-    told(answer, Read { number, width })
+    told(answer, NumberRead { number, width })
 }
 
 /// Writes a charstring number to the start of `out`, an integer in its shortest form, and answers how many bytes it is.

@@ -6,8 +6,11 @@ const L: [u8; 9] = [0x00, 0x01, 0x01, 0x01, 0x05, 0x8C, 0x8D, 0x15, 0x0B];
 
 #[test]
 fn an_index_is_read_and_taken_apart() {
-    assert_eq!(read_index(&L), Ok(Index { count: 1, taken: 9 }));
-    assert_eq!(read_index(EMPTY_INDEX), Ok(Index { count: 0, taken: 2 }));
+    assert_eq!(read_index(&L), Ok(IndexRead { count: 1, taken: 9 }));
+    assert_eq!(
+        read_index(EMPTY_INDEX),
+        Ok(IndexRead { count: 0, taken: 2 })
+    );
     assert_eq!(read_entry(&L, 0), Ok(5..9));
     assert_eq!(
         read_entry(&[0x00, 0x01, 0x01, 0x02, 0x03, 0x8C, 0x0B], 0),
@@ -16,7 +19,7 @@ fn an_index_is_read_and_taken_apart() {
     let ends_last = [0x00, 0x01, 0x01, 0x03, 0x03, 0xAA, 0xBB];
     assert_eq!(read_entry(&ends_last, 0), Ok(7..7));
     let last_is_0 = [0x00, 0x02, 0x01, 0x01, 0x01, 0x00];
-    assert_eq!(read_index(&last_is_0), Ok(Index { count: 0, taken: 6 }));
+    assert_eq!(read_index(&last_is_0), Ok(IndexRead { count: 0, taken: 6 }));
     assert_eq!(read_entry(&last_is_0, 0), Err(Refusal::EntryAbsent));
 }
 

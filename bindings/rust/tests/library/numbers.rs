@@ -21,9 +21,12 @@ fn written_numbers_are_document_01s_and_read_back() {
         writes(bytes, |out| write_charstring_number(Integer(value), out));
         writes(bytes, |out| write_dict_integer(value, out));
         let number = Integer(value);
-        assert_eq!(read_charstring_number(bytes), Ok(Read { number, width }));
+        assert_eq!(
+            read_charstring_number(bytes),
+            Ok(NumberRead { number, width })
+        );
         let number = value;
-        assert_eq!(read_dict_integer(bytes), Ok(Read { number, width }));
+        assert_eq!(read_dict_integer(bytes), Ok(NumberRead { number, width }));
     }
 }
 
@@ -34,14 +37,17 @@ fn five_bytes_are_a_fixed_in_a_charstring_and_an_integer_in_a_dict() {
     writes(&fixed, |out| write_charstring_number(number, out));
     assert_eq!(
         read_charstring_number(&fixed),
-        Ok(Read { number, width: 5 })
+        Ok(NumberRead { number, width: 5 })
     );
     assert_eq!(read_dict_integer(&fixed), Err(Refusal::Unknown));
 
     let integer = [0x1D, 0x00, 0x00, 0x80, 0x00];
     let number = 32768;
     writes(&integer, |out| write_dict_integer(number, out));
-    assert_eq!(read_dict_integer(&integer), Ok(Read { number, width: 5 }));
+    assert_eq!(
+        read_dict_integer(&integer),
+        Ok(NumberRead { number, width: 5 })
+    );
     assert_eq!(read_charstring_number(&integer), Err(Refusal::Unknown));
 }
 
