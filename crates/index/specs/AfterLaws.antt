@@ -14,7 +14,7 @@ use Rattle.number.specs.BigEndian.{beAt}
 use Rattle.index.specs.Index.{Place, dataStart, offset, extent, placeIn, place, bytesBy, part}
 use Rattle.index.specs.Formed.{entriesFrom, formedBy, formation}
 use Rattle.index.specs.OffsetLaws.{start-is, start-mono}
-use Rattle.index.specs.IndexLaws.{has, offsetOf, Headed, Full, reach, Shape, none, emptied, full, shape, entries-full, size-there, count-zero, last-zero, full-read, past-count, count-there, inside}
+use Rattle.index.specs.IndexLaws.{has, offsetOf, Headed, Full, reach, Shape, none, emptied, full, shape, entries-full, size-there, count-zero, last-zero, full-read, past-count, count-there, Inside, place-inside}
 
 module _ (s r : List ℕ) where
   be-after : (at k : ℕ) → at + k ≤ length s → beAt (s ++ r) at k ≡ beAt s at k
@@ -25,8 +25,15 @@ module _ (s r : List ℕ) where
   longer : length s ≤ length (s ++ r)
   longer = omega (arith, length-append s r)
 
+  -- the bytes of an entry that lies in s
+  pub bytes-after : (x : Answer Place) → Inside s x → bytesBy (s ++ r) x ≡ bytesBy s x
+  unfolding bytesBy
+  bytes-after (refused k v) h = refl
+  bytes-after (accepted p) h =
+      rw (drop-append-le (p .start) s r (omega arith), take-append-le (p .size) (drop (p .start) s) r (simp length-drop (omega arith)))
+
   module _ (w : ℕ) where
-    offset-after : (z i : ℕ) → dataStart w i z ≤ length s → offset w (s ++ r) z i ≡ offset w s z i
+    pub offset-after : (z i : ℕ) → dataStart w i z ≤ length s → offset w (s ++ r) z i ≡ offset w s z i
     unfolding offset
     offset-after z i h = be-after (w + 1 + i * z) z (omega (arith, start-is w i z))
 
@@ -88,14 +95,8 @@ module _ (s r : List ℕ) where
           go true b = below i (ltb-true i n b) (entries-full w s n t e (omega (arith, ltb-true i n b)) .0)
 
       pub part-after : (i : ℕ) → part w (s ++ r) i ≡ part w s i
-      unfolding part bytesBy
-      part-after i = ap (bytesBy (s ++ r)) (place-after i) ∙ go (place w s i) refl
-        where
-          go : (x : Answer Place) → x ≡ place w s i → bytesBy (s ++ r) x ≡ bytesBy s x
-          go (refused k v) q = refl
-          go (accepted p) q =
-              let h = inside w s i (p .start) (p .size) q in
-              rw (drop-append-le (p .start) s r (omega arith), take-append-le (p .size) (drop (p .start) s) r (simp length-drop (omega arith)))
+      unfolding part
+      part-after i = ap (bytesBy (s ++ r)) (place-after i) ∙ bytes-after (place w s i) (place-inside w s i (place w s i) refl)
 
       entries-after : (i k : ℕ) → entriesFrom w (s ++ r) i k ≡ entriesFrom w s i k
       unfolding entriesFrom

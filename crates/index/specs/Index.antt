@@ -97,9 +97,12 @@ unfoldable pub startBy : ℕ × ℕ → Answer Place → ℕ × ℕ
 startBy at (accepted p) = (at .0, at .1 + p .start)
 startBy at (refused k v) = at
 
+unfoldable pub partBy : ℕ × ℕ → List ℕ → Answer Place → Part
+partBy at s x = record { at = startBy at x; bytes = bytesBy s x }
+
 -- entry i of the INDEX at the start of s, whose first byte stands at `at`
 abbrev pub partAt : ℕ → ℕ × ℕ → List ℕ → ℕ → Part
-partAt w at s i = record { at = startBy at (place w s i); bytes = part w s i }
+partAt w at s i = partBy at s (place w s i)
 
 -- ---- what the readers' answers say, by document 01's numbers
 

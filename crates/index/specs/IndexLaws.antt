@@ -10,7 +10,7 @@ use lib.Dec.{leb, ltb, eqb}
 use borrow.Author.Tests.{lt-ltb, le-ltb, le-leb, lt-leb, eq-eqb, ne-eqb, ltb-false, leb-false, eqb-true, eqb-false}
 use Rattle.number.specs.Answer.{Answer, accepted, refused}
 use Rattle.number.specs.BigEndian.{beAt}
-use Rattle.index.specs.Index.{Extent, Place, dataStart, offset, byLast, bySize, byCount, extent, absent, placeBy, placeIn, place, bytesBy, part, startBy, partAt}
+use Rattle.index.specs.Index.{Extent, Place, dataStart, offset, byLast, bySize, byCount, extent, absent, placeBy, placeIn, place, bytesBy, part, startBy, partBy}
 use Rattle.index.specs.OffsetLaws.{start-is}
 
 -- an accepted read, and an accepted entry
@@ -22,7 +22,7 @@ lies a m = accepted (record { start = a; size = m })
 
 -- ---- tests
 
-or-true : (t : Bool) → t || true ≡ true
+pub or-true : (t : Bool) → t || true ≡ true
 or-true true = refl
 or-true false = refl
 
@@ -36,7 +36,7 @@ same e = cc
 pub not-refused : {A : Type 0} {x : A} {k : ℕ} {v : List ℕ} → accepted x ≡ refused k v → ⊥
 not-refused e = let z : _≡_ {A = ℕ} 0 1 = cc in omega arith
 
-past : {A : Type 0} (t : Bool) (k : ℕ) (x : Answer A) {y : A} → accepted y ≡ cond t (refused k []) x → (t ≡ false) × (accepted y ≡ x)
+pub past : {A : Type 0} (t : Bool) (k : ℕ) (x : Answer A) {y : A} → accepted y ≡ cond t (refused k []) x → (t ≡ false) × (accepted y ≡ x)
 past true k x e = absurd (not-refused e)
 past false k x e = (refl, e)
 
@@ -229,6 +229,27 @@ module _ (w : ℕ) (s : List ℕ) (n t : ℕ) where
 
 -- ---- an entry
 
+-- by its two offsets a and b
+module _ (i : ℕ) (x : Extent) (d a b : ℕ) where
+  pub by-zero : a ≡ 0 → refused 25 [] ≡ placeBy i x d a b
+  unfolding placeBy absent
+  by-zero e = rw (eq-eqb a 0 e, or-true)
+
+  pub by-descent : b < a → refused 25 [] ≡ placeBy i x d a b
+  unfolding placeBy absent
+  by-descent h = simp (lt-ltb b a h, or-true)
+
+  pub by-passing : x .taken < d + (b - 1) → refused 25 [] ≡ placeBy i x d a b
+  unfolding placeBy absent
+  by-passing h = simp (lt-ltb (x .taken) (d + (b - 1)) h, or-true)
+
+  pub by-order : {y m : ℕ} → i < x .entries → 0 < a → a ≤ b → d + (b - 1) ≤ x .taken → y ≡ d + (a - 1) → m ≡ b - a → lies y m ≡ placeBy i x d a b
+  unfolding placeBy absent
+  by-order h p k l at long =
+      let a≢ : a ≡ 0 → ⊥ = λ e. omega arith in
+      let b≢ : b ≡ 0 → ⊥ = λ e. omega arith in
+      rw (at, long, lt-leb (x .entries) i h, ne-eqb a 0 a≢, ne-eqb b 0 b≢, le-ltb b a k, le-ltb (x .taken) (d + (b - 1)) l)
+
 module _ (w : ℕ) (s : List ℕ) (i : ℕ) where
   pub not-read : (k : ℕ) → refused k [] ≡ extent w s → refused k [] ≡ place w s i
   unfolding place placeIn
@@ -240,35 +261,26 @@ module _ (w : ℕ) (s : List ℕ) (i : ℕ) where
 
   -- between its two offsets
   module _ {n a b : ℕ} (f : Full w s n) (first : a ≡ offsetOf w s i) (next : b ≡ offsetOf w s (i + 1)) where
-    abbrev between : Answer Place
-    between = placeBy i (record { entries = n; taken = reach w s n }) (dataOf w s n) a b
-
-    to-place : between ≡ place w s i
+    pub to-place : placeBy i (record { entries = n; taken = reach w s n }) (dataOf w s n) a b ≡ place w s i
     unfolding place placeIn
     to-place = rw (← full-read w s f refl, first, next)
 
+    -- as the code has it, with the end that the reading found
+    pub to-place-by : {t : ℕ} → t ≡ reach w s n → placeBy i (record { entries = n; taken = t }) (dataOf w s n) a b ≡ place w s i
+    to-place-by e = ap (λ (t : ℕ). placeBy i (record { entries = n; taken = t }) (dataOf w s n) a b) e ∙ to-place
+
     pub zero-offset : a ≡ 0 → refused 25 [] ≡ place w s i
-    unfolding placeBy absent
-    zero-offset e = let t : refused 25 [] ≡ between = rw (eq-eqb a 0 e, or-true) in t ∙ to-place
+    zero-offset e = by-zero _ _ _ _ _ e ∙ to-place
 
     pub descends : b < a → refused 25 [] ≡ place w s i
-    unfolding placeBy absent
-    descends h = let t : refused 25 [] ≡ between = simp (lt-ltb b a h, or-true) in t ∙ to-place
+    descends h = by-descent _ _ _ _ _ h ∙ to-place
 
     pub passes : reach w s n < dataOf w s n + (b - 1) → refused 25 [] ≡ place w s i
-    unfolding placeBy absent
-    passes h =
-        let t : refused 25 [] ≡ between = simp (lt-ltb (reach w s n) (dataOf w s n + (b - 1)) h, or-true) in t ∙ to-place
+    passes h = by-passing _ _ _ _ _ h ∙ to-place
 
     pub present : {x y : ℕ} → i < n → 0 < a → a ≤ b → dataOf w s n + (b - 1) ≤ reach w s n
         → x ≡ dataOf w s n + (a - 1) → y ≡ b - a → lies x y ≡ place w s i
-    unfolding placeBy absent
-    present h p k l at long =
-        let a≢ : a ≡ 0 → ⊥ = λ e. omega arith in
-        let b≢ : b ≡ 0 → ⊥ = λ e. omega arith in
-        let d = dataOf w s n in
-        let t : lies (d + (a - 1)) (b - a) ≡ between = rw (lt-leb n i h, ne-eqb a 0 a≢, ne-eqb b 0 b≢, le-ltb b a k, le-ltb (reach w s n) (d + (b - 1)) l) in
-        rw (at, long) (t ∙ to-place)
+    present h p k l at long = by-order _ _ _ _ _ h p k l at long ∙ to-place
 
 -- ---- what an entry that is present says
 
@@ -288,31 +300,57 @@ start-of p = p .start
 abbrev size-of : Place → ℕ
 size-of p = p .size
 
+-- by its two offsets a and b: it starts at p and has m bytes
+pub record Between (i : ℕ) (x : Extent) (d a b p m : ℕ) : Type 0 where
+  pub below : i < x .entries
+  pub first-pos : 0 < a
+  pub order : a ≤ b
+  pub within : d + (b - 1) ≤ x .taken
+  pub at : p ≡ d + (a - 1)
+  pub long : m ≡ b - a
+
+pub between : (i : ℕ) (x : Extent) (d a b p m : ℕ) → lies p m ≡ placeBy i x d a b → Between i x d a b p m
+unfolding placeBy absent
+between i x d a b p m h =
+    let g = past (leb (x .entries) i || (eqb a 0 || (eqb b 0 || (ltb b a || ltb (x .taken) (d + (b - 1)))))) 25 _ h in
+    let o1 = or-none (leb (x .entries) i) _ (g .0) in
+    let o2 = or-none (eqb a 0) _ (o1 .1) in
+    let o3 = or-none (eqb b 0) _ (o2 .1) in
+    let o4 = or-none (ltb b a) _ (o3 .1) in
+    let a≢ : a ≡ 0 → ⊥ = eqb-false a 0 (o2 .0) in
+    record {
+      below = leb-false (x .entries) i (o1 .0);
+      first-pos = omega arith;
+      order = ltb-false b a (o4 .0);
+      within = ltb-false (x .taken) (d + (b - 1)) (o4 .1);
+      at = ap start-of (same (g .1));
+      long = ap size-of (same (g .1));
+    }
+
+-- an entry's part lies within the bytes, if there is one
+abbrev pub Inside : List ℕ → Answer Place → Type 0
+Inside s (accepted p) = p .start + p .size ≤ length s
+Inside s (refused k v) = Unit {0}
+
+pub between-inside : (i : ℕ) (x : Extent) (d a b : ℕ) (s : List ℕ) → x .taken ≤ length s → (y : Answer Place) → y ≡ placeBy i x d a b → Inside s y
+between-inside i x d a b s h (accepted p) e = let g = between i x d a b (p .start) (p .size) e in omega arith
+between-inside i x d a b s h (refused k v) e = tt
+
 module _ (w : ℕ) (s : List ℕ) (i a m : ℕ) where
   by-extent : (n t : ℕ) → has n t ≡ extent w s → lies a m ≡ placeIn w s i (has n t) → Held w s i n a m
-  unfolding placeIn placeBy absent
+  unfolding placeIn
   by-extent n t e h =
       let z = getD s w 0 in
-      let u = offset w s z i in
-      let v = offset w s z (i + 1) in
-      let d = dataStart w n z in
-      let g = past (leb n i || (eqb u 0 || (eqb v 0 || (ltb v u || ltb t (d + (v - 1)))))) 25 _ h in
-      let o1 = or-none (leb n i) _ (g .0) in
-      let o2 = or-none (eqb u 0) _ (o1 .1) in
-      let o3 = or-none (eqb v 0) _ (o2 .1) in
-      let o4 = or-none (ltb v u) _ (o3 .1) in
-      let below : i < n = leb-false n i (o1 .0) in
-      let u≢ : u ≡ 0 → ⊥ = eqb-false u 0 (o2 .0) in
+      let g = between i (record { entries = n; taken = t }) (dataStart w n z) (offset w s z i) (offset w s z (i + 1)) a m h in
       let f = entries-full w s n t e (omega arith) in
-      let ends : d + (v - 1) ≤ t = ltb-false t (d + (v - 1)) (o4 .1) in
       record {
         full = f .0;
-        below = below;
-        first-pos = omega arith;
-        order = ltb-false v u (o4 .0);
+        below = g .below;
+        first-pos = g .first-pos;
+        order = g .order;
         within = omega arith;
-        at = ap start-of (same (g .1));
-        long = ap size-of (same (g .1));
+        at = g .at;
+        long = g .long;
       }
 
   module _ (h : lies a m ≡ place w s i) where
@@ -335,19 +373,25 @@ module _ (w : ℕ) (s : List ℕ) (i a m : ℕ) where
     pub part-length : length (part w s i) ≡ m
     part-length = ap length (sym part-is) ∙ length-take-le m (drop a s) (let k = inside in simp length-drop (omega arith))
 
-    -- where it stands
-    pub part-at : (at : ℕ × ℕ) {o : ℕ} {l : List ℕ} → o ≡ at .1 + a → l ≡ take m (drop a s) → record { at = (at .0, o); bytes = l } ≡ partAt w at s i
-    unfolding startBy part bytesBy
-    part-at at p q = rw (p, q, ← h)
-
   pub held-place : {n : ℕ} → Held w s i n a m → lies a m ≡ place w s i
   held-place d = present w s i (d .full) refl refl (d .below) (d .first-pos) (d .order) (d .within) (d .at) (d .long)
 
--- an entry that is refused has no bytes, and its part starts where the bytes do
+pub place-inside : (w : ℕ) (s : List ℕ) (i : ℕ) (y : Answer Place) → y ≡ place w s i → Inside s y
+place-inside w s i (accepted p) e = inside w s i (p .start) (p .size) e
+place-inside w s i (refused k v) e = tt
+
+-- an entry that is refused has no bytes
 pub no-part : (w : ℕ) (s : List ℕ) (i k : ℕ) → refused k [] ≡ place w s i → [] ≡ part w s i
 unfolding part bytesBy
 no-part w s i k h = rw (← h)
 
-pub no-part-at : (w : ℕ) (s : List ℕ) (i k : ℕ) (at : ℕ × ℕ) → refused k [] ≡ place w s i → record { at = at; bytes = [] } ≡ partAt w at s i
-unfolding startBy part bytesBy
-no-part-at w s i k at h = rw (← h)
+-- ---- where a part stands
+
+module _ (at : ℕ × ℕ) (s : List ℕ) where
+  pub part-lies : (a m : ℕ) {o : ℕ} {l : List ℕ} → o ≡ at .1 + a → l ≡ take m (drop a s) → record { at = (at .0, o); bytes = l } ≡ partBy at s (lies a m)
+  unfolding partBy startBy bytesBy
+  part-lies a m p q = rw (p, q)
+
+  pub part-none : (k : ℕ) (v : List ℕ) → record { at = at; bytes = [] } ≡ partBy at s (refused k v)
+  unfolding partBy startBy bytesBy
+  part-none k v = refl

@@ -4,6 +4,8 @@ pub mod OffsetLaws
 pub mod IndexLaws
 pub mod FormedLaws
 pub mod AfterLaws
+pub mod View
+pub mod ViewLaws
 pub mod Examples
 pub mod Writing
 pub mod WritingLaws

@@ -25,9 +25,9 @@ start-mono w {i} {n} z h = omega (arith, start-is w i z, start-is w n z, mul-le-
 pub start-past : (w n z : ℕ) → 0 < z → w + 1 + (n + 1) ≤ dataStart w n z
 start-past w n z h = omega (arith, mul-le-mul {n₁ = n + 1} {m₁ = 1} {n₂ = n + 1} {m₂ = z} (le-refl (n + 1)) h)
 
--- a count of 16 bits and offsets of at most four bytes
-pub product-small : {n z : ℕ} → n < 65536 → z ≤ 4 → (n + 1) * z ≤ 262144
-product-small {n} {z} h k = mul-le-mul {n₁ = n + 1} {m₁ = z} {n₂ = 65536} {m₂ = 4} (omega arith) k
+-- a count below m and offsets of at most four bytes
+pub product-small : (m : ℕ) {n z : ℕ} → n < m → z ≤ 4 → (n + 1) * z ≤ m * 4
+product-small m {n} {z} h k = mul-le-mul {n₁ = n + 1} {m₁ = z} {n₂ = m} {m₂ = 4} (omega arith) k
 
 -- ---- a big-endian number by its last bytes
 

@@ -4,8 +4,11 @@ use crate::offset::offset_at;
 use crate::read::IndexRead;
 use crate::read::read_index;
 ghost use mathlib.Core.Path.{_≡_};
+ghost use Prim.Native.Nat.{_+_, _<_, _≤_};
+ghost use lib.ListN.{length};
 ghost use denote.Ref.{ptr};
-ghost use Rattle.index.specs.Index.{place, entryRead, partAt};
+ghost use Rattle.index.specs.Index.{dataStart, offset, placeBy, place, partBy, partAt, entryRead};
+ghost use Rattle.index.specs.IndexLaws.{Inside};
 
 // What reading an entry finds.
 pub enum EntryRead {
@@ -30,24 +33,31 @@ pub fn read_entry(s: &[u8], number: u32) -> EntryRead
             if count <= number {
                 return EntryRead::Absent;
             }
-            let size = s[2] as usize;
-            let mask = mask_of(size);
-            let start = 3 + (count as usize + 1) * size;
-            let i = number as usize;
-            let a = offset_at(s, size, mask, i);
-            let b = offset_at(s, size, mask, i + 1);
-            if a == 0 {
-                return EntryRead::Absent;
-            }
-            if b < a {
-                return EntryRead::Absent;
-            }
-            if taken < start + (b - 1) {
-                return EntryRead::Absent;
-            }
-            EntryRead::Entry(start + (a - 1), b - a)
+            entry_between(s, count, s[2] as usize, taken, number)
         }
     }
+}
+
+// Entry `number` by its two offsets, of an INDEX that has it and all its offsets, and ends at `end`.
+pub(crate) fn entry_between(s: &[u8], count: u32, size: usize, end: usize, number: u32) -> EntryRead
+    requires { ⌜ (number < count) × (0 < size) × (size ≤ 4) × (dataStart 2 count size ≤ length (now s)) ⌝ }
+    ensures { λ r. ⌜ entryRead r ≡ placeBy number (record { entries = count; taken = end }) (dataStart 2 count size) (offset 2 (now (s .entry)) size number) (offset 2 (now (s .entry)) size (number + 1)) ⌝ }
+{
+    let mask = mask_of(size);
+    let start = 3 + (count as usize + 1) * size;
+    let i = number as usize;
+    let a = offset_at(s, size, mask, i);
+    let b = offset_at(s, size, mask, i + 1);
+    if a == 0 {
+        return EntryRead::Absent;
+    }
+    if b < a {
+        return EntryRead::Absent;
+    }
+    if end < start + (b - 1) {
+        return EntryRead::Absent;
+    }
+    EntryRead::Entry(start + (a - 1), b - a)
 }
 
 // The bytes of entry `number` where they stand in s, not copied, or the empty part at the start of
@@ -55,7 +65,15 @@ pub fn read_entry(s: &[u8], number: u32) -> EntryRead
 pub fn entry_part(s: &[u8], number: u32) -> &[u8]
     ensures { λ r. ⌜ record { at = ptr r; bytes = now r } ≡ partAt 2 (ptr (s .entry)) (now (s .entry)) number ⌝ }
 {
-    let EntryRead::Entry(at, length) = read_entry(s, number) else {
+    part_of(s, read_entry(s, number))
+}
+
+// The part of s that an answer tells of.
+pub(crate) fn part_of(s: &[u8], entry: EntryRead) -> &[u8]
+    requires { ⌜ Inside (now s) (entryRead entry) ⌝ }
+    ensures { λ r. ⌜ record { at = ptr r; bytes = now r } ≡ partBy (ptr (s .entry)) (now (s .entry)) (entryRead entry) ⌝ }
+{
+    let EntryRead::Entry(at, length) = entry else {
         return &s[..0];
     };
     &s[at..at + length]

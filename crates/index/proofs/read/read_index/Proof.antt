@@ -10,7 +10,7 @@ use Rattle.index.proofs.read.read_index.Tie as tie
 
 -- where the size is known to be 1 to 4
 small : (c : tie.Else5) → (c .before .before .before .before .before .count-at .result + 1) * getD (c .before .before .before .before .before .before .before .before .args .s .now) 2 0 ≤ 262144
-small c = product-small (omega arith) (omega arith)
+small c = product-small 65536 (omega arith) (omega arith)
 
 -- where the offsets are known to be there
 head : (c : tie.Else6) → Headed 2 (c .before .before .before .before .before .before .before .before .before .args .s .now) (c .before .before .before .before .before .before .count-at .result)

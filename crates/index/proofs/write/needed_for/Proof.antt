@@ -8,7 +8,7 @@ use Rattle.index.proofs.write.needed_for.Tie as tie
 
 -- the offsets of so few elements
 small : (c : tie.Else1) → (c .before .args .count + 1) * c .before .args .size ≤ 262144
-small c = product-small (omega arith) (omega arith)
+small c = product-small 65536 (omega arith) (omega arith)
 
 returns : tie.Need-returns
 returns c = reach-none _ _ _ _ (omega arith)

@@ -1,0 +1,77 @@
+-- `index::entry::entry_between` meets its contract. Assumes nothing.
+use Prim.Native.Nat.{_+_}
+use native.Mathlib.Omega.{arith}
+use borrow.Author.Needs.{needs}
+use Rattle.index.specs.OffsetLaws.{start-mono}
+use Rattle.index.specs.IndexLaws.{by-zero, by-descent, by-passing, by-order}
+use Rattle.index.proofs.entry.entry_between.Statement.{statement}
+use Rattle.index.proofs.entry.entry_between.Tie as tie
+
+mask-of-requires : tie.Need-mask-of-requires
+mask-of-requires c κs = search needs
+
+add-start : tie.Need-add-start
+add-start c = search needs
+
+mul-start : tie.Need-mul-start
+mul-start c = search needs
+
+add-start-2 : tie.Need-add-start-2
+add-start-2 c = search needs
+
+offset-at-requires : tie.Need-offset-at-requires
+offset-at-requires c κs =
+    let a = c .before .before .args in
+    (c .mask-of .ensures, omega (arith, start-mono 2 {i = a .number} {n = a .count} (a .size) (omega arith)))
+
+add-offset-at : tie.Need-add-offset-at
+add-offset-at c = search needs
+
+offset-at-requires-2 : tie.Need-offset-at-requires-2
+offset-at-requires-2 c κs =
+    let a = c .before .before .before .args in
+    (c .before .mask-of .ensures, omega (arith, start-mono 2 {i = a .number + 1} {n = a .count} (a .size) (omega arith)))
+
+returns : tie.Need-returns
+returns c = by-zero _ _ _ _ _ (omega arith)
+
+returns-2 : tie.Need-returns-2
+returns-2 c = by-descent _ _ _ _ _ (omega arith)
+
+sub-if3 : tie.Need-sub-if3
+sub-if3 c = search needs
+
+add-if3 : tie.Need-add-if3
+add-if3 c = search needs
+
+returns-3 : tie.Need-returns-3
+returns-3 c = by-passing _ _ _ _ _ (omega arith)
+
+sub-t11 : tie.Need-sub-t11
+sub-t11 c = search needs
+
+add-t13 : tie.Need-add-t13
+add-t13 c = search needs
+
+returns-4 : tie.Need-returns-4
+returns-4 c = by-order _ _ _ _ _ (omega arith) (omega arith) (omega arith) (omega arith) (omega arith) (omega arith)
+
+pub entry-between-spec : {M : Type 1} → statement M
+entry-between-spec =
+    tie.close
+    (tie.spec
+    mask-of-requires
+    add-start
+    mul-start
+    add-start-2
+    offset-at-requires
+    add-offset-at
+    offset-at-requires-2
+    returns
+    returns-2
+    sub-if3
+    add-if3
+    returns-3
+    sub-t11
+    add-t13
+    returns-4)
