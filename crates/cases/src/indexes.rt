@@ -27,13 +27,7 @@ pub(crate) fn read_entry(args: &[u8], room: &mut [u8]) -> Line {
     }
     let number = word_at(args, 0);
     let s = bytes_at(args, 4);
-    let part = index::entry_part(s, number);
-    copy(part, room);
-    entry_read(
-        index::read_entry(s, number),
-        first(part.len(), room),
-        part.len(),
-    )
+    entry_line(s, number, index::entry_part(s, number), room)
 }
 
 // 7: n, n lengths, bytes, room.
@@ -70,6 +64,16 @@ pub(crate) fn well_formed(args: &[u8]) -> Line {
     formed(index::well_formed(bytes_at(args, 0)))
 }
 
+// 12: number, bytes.
+pub(crate) fn read_entry_by_view(args: &[u8], room: &mut [u8]) -> Line {
+    if !shaped(args, 4, 1) {
+        return Line::unasked();
+    }
+    let number = word_at(args, 0);
+    let s = bytes_at(args, 4);
+    entry_line(s, number, index::part_by_view(s, number), room)
+}
+
 // `0 COUNT TAKEN`.
 fn index_read(answer: IndexRead) -> Line {
     match answer {
@@ -77,6 +81,17 @@ fn index_read(answer: IndexRead) -> Line {
         IndexRead::Lacking => Line::of(20),
         IndexRead::BadSize => Line::of(21),
     }
+}
+
+// The line of an entry, with the part that was found for it. A part does not tell its place, nor
+// why it is empty: those are the plain reader's.
+fn entry_line(s: &[u8], number: u32, part: &[u8], room: &mut [u8]) -> Line {
+    copy(part, room);
+    entry_read(
+        index::read_entry(s, number),
+        first(part.len(), room),
+        part.len(),
+    )
 }
 
 // `0 PLACE LENGTH HEX`, where HEX is the entry's part, of which a copy and the length are given. The

@@ -53,7 +53,8 @@ pub fn listed() -> Vec<Record> {
 /// One sound record of each operation.
 pub fn one_of_each() -> Vec<Record> {
     let bytes = EXAMPLES[2];
-    vec![read(bytes), entry(1, bytes), write(&[1, 0], &[0x0E], 7), formed(bytes)]
+    let [plain, by_view] = entries(1, bytes);
+    vec![read(bytes), plain, write(&[1, 0], &[0x0E], 7), formed(bytes), by_view]
 }
 
 /// Records whose room is the first one that there is not, or with more lengths than a record holds.
@@ -79,11 +80,13 @@ pub fn longest() -> Vec<Record> {
     for size in SIZES {
         let whole = full(size);
         records.extend([read(&whole), formed(&whole)]);
-        records.extend([0, 1, 32767, 65533, 65534, 65535].map(|number| entry(number, &whole)));
+        let numbers = [0, 1, 32767, 65533, 65534, 65535];
+        records.extend(numbers.into_iter().flat_map(|number| entries(number, &whole)));
         records.extend([read(&whole[..whole.len() - 1]), formed(&whole[..whole.len() - 1])]);
     }
     let long = Parts::of(&[(MOST - 20) as u32], 3).laid();
-    records.extend([read(&long), formed(&long), entry(0, &long), entry(1, &long)]);
+    records.extend([read(&long), formed(&long)]);
+    records.extend([0, 1].into_iter().flat_map(|number| entries(number, &long)));
     records
 }
 
@@ -125,9 +128,9 @@ pub fn exhaustive() -> Vec<Record> {
 pub fn random(op: u8, random: &mut Random) -> Record {
     match op {
         5 => read(&any_bytes(random)),
-        6 => {
+        6 | 12 => {
             let bytes = any_bytes(random);
-            entry(any_number(&bytes, random), &bytes)
+            entry(op, any_number(&bytes, random), &bytes)
         }
         7 => any_writing(random),
         _ => formed(&any_bytes(random)),
@@ -178,9 +181,9 @@ fn strings<T: Copy>(these: &[T], length: usize) -> Vec<Vec<T>> {
 }
 
 /// Every reader on these bytes: the whole, its first entries, and whether it is well formed.
-fn reads(bytes: &[u8], entries: u32) -> Vec<Record> {
+fn reads(bytes: &[u8], first: u32) -> Vec<Record> {
     let mut records = vec![read(bytes), formed(bytes)];
-    records.extend((0..entries).map(|number| entry(number, bytes)));
+    records.extend((0..first).flat_map(|number| entries(number, bytes)));
     records
 }
 
@@ -192,7 +195,7 @@ fn cut_off() -> Vec<Record> {
         for length in 0..=bytes.len() {
             records.extend(reads(&bytes[..length], 4));
         }
-        records.push(entry(u32::MAX, &bytes));
+        records.extend(entries(u32::MAX, &bytes));
     }
     for size in [0, 5, 6, 128, 254, 255] {
         let bytes = Parts::of(&ELEMENTS, size).laid();
@@ -228,7 +231,7 @@ fn wide() -> Vec<Record> {
     for size in [2, 3, 4] {
         let bytes = Parts::of(&[255, 1, 2, 256, 1], size).laid();
         records.extend([read(&bytes), formed(&bytes)]);
-        records.extend([1, 2, 4, 5].map(|number| entry(number, &bytes)));
+        records.extend([1, 2, 4, 5].into_iter().flat_map(|number| entries(number, &bytes)));
     }
     records
 }
@@ -449,8 +452,14 @@ fn read(bytes: &[u8]) -> Record {
     operation(5).bytes(bytes).made()
 }
 
-fn entry(number: u32, bytes: &[u8]) -> Record {
-    operation(6).u32(number).bytes(bytes).made()
+/// By the plain reader, 6, or by the view, 12.
+fn entry(op: u8, number: u32, bytes: &[u8]) -> Record {
+    operation(op).u32(number).bytes(bytes).made()
+}
+
+/// Both ways.
+fn entries(number: u32, bytes: &[u8]) -> [Record; 2] {
+    [6, 12].map(|op| entry(op, number, bytes))
 }
 
 fn write(lengths: &[u32], joined: &[u8], room: u32) -> Record {

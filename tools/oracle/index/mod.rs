@@ -1,4 +1,4 @@
-//! INDEXes: operations 5, 6, 7 and 11. On document 01's domain of equality, which is all reads and
+//! INDEXes: operations 5, 6, 7, 11 and 12. On document 01's domain of equality, which is all reads and
 //! all writes not refused with 23, 24 or 13, the line is the Rust's own answer; the Rust's `None`
 //! says that there is a refusal, and document 01 which one.
 
@@ -10,17 +10,22 @@ use crate::expected::must_agree;
 use crate::record::{hex, Arguments};
 use rules::Fault;
 
-pub const OPERATIONS: [u8; 4] = [5, 6, 7, 11];
+pub const OPERATIONS: [u8; 5] = [5, 6, 7, 11, 12];
 
 /// What each operation can answer. A run that never met one of these shows nothing about it.
-pub const ANSWERS: [(u8, &[u32]); 4] =
-    [(5, &[0, 20, 21]), (6, &[0, 20, 21, 25]), (7, &[0, 13, 22, 23, 24]), (11, &[0, 20, 21, 25])];
+pub const ANSWERS: [(u8, &[u32]); 5] = [
+    (5, &[0, 20, 21]),
+    (6, &[0, 20, 21, 25]),
+    (7, &[0, 13, 22, 23, 24]),
+    (11, &[0, 20, 21, 25]),
+    (12, &[0, 20, 21, 25]),
+];
 
 /// The line for a record of one of these operations, or `None` where it is no such record.
 pub fn line(op: u8, arguments: &mut Arguments) -> Option<String> {
     let line = match op {
         5 => read_line(arguments.bytes()?),
-        6 => {
+        6 | 12 => {
             let number = arguments.u32()?;
             entry_line(number, arguments.bytes()?)
         }
