@@ -1,0 +1,12 @@
+-- `flatten::mebibyte` makes so many. Assumes nothing.
+use mathlib.Core.Path.{sym}
+use Prim.Native.Nat.{ℕ}
+use lib.ListN.{length-replicate}
+use Rattle.flatten.proofs.mebibyte.Statement.{statement}
+use Rattle.flatten.proofs.mebibyte.Tie as tie
+
+returns : tie.Need-returns
+returns c = sym (length-replicate {A = ℕ} 1048576 0)
+
+pub mebibyte-spec : {M : Type 1} → statement M
+mebibyte-spec = tie.close (tie.spec returns)

@@ -1,0 +1,131 @@
+// What came of a font part: document 01's number and its values, and a sentence.
+use crate::hex::write_hex;
+use crate::part::Answer;
+use libc::STDERR_FILENO;
+use libc::STDOUT_FILENO;
+use reading::Flattened;
+use reading::Refusal;
+
+// Tells an answer, over the room that it was lent; `size` is how many bytes came in.
+pub(crate) fn tell(answer: Answer, size: usize, room: &[u8]) {
+    match answer {
+        Answer::Flattened(flattened) => tell_flattened(flattened, room),
+        Answer::Headless => {
+            tell_form(size);
+            io::write_all(STDERR_FILENO, b", fewer than the three lengths take");
+            tell_expected();
+        }
+        Answer::Says(n) => {
+            tell_form(size);
+            io::write_all(STDERR_FILENO, b", and by its lengths it would have ");
+            io::print_decimal(STDERR_FILENO, n as u64);
+            tell_expected();
+        }
+    }
+}
+
+fn tell_form(size: usize) {
+    io::write_all(
+        STDERR_FILENO,
+        b"flatten: the input is no font part: it has ",
+    );
+    io::print_decimal(STDERR_FILENO, size as u64);
+    io::write_all(STDERR_FILENO, b" bytes");
+}
+
+fn tell_expected() {
+    io::write_all(
+        STDERR_FILENO,
+        b". Expected: three lengths of four bytes, the highest byte first, and then the charstring, the global list and the local list, and nothing more.\n",
+    );
+}
+
+// Says that the input passes the limit.
+pub(crate) fn tell_long() {
+    io::write_all(
+        STDERR_FILENO,
+        b"flatten: the input is too long: a font part of more than 1048576 bytes is not taken.\n",
+    );
+}
+
+fn tell_flattened(flattened: Flattened, room: &[u8]) {
+    match flattened {
+        Flattened::Accepted(n, tokens) => tell_accepted(n, tokens, room),
+        Flattened::BadGlobals => say(b"1: the global list is not well formed\n"),
+        Flattened::BadLocals => say(b"2: the local list is not well formed\n"),
+        Flattened::Refused(refusal, tokens) => tell_refusal(refusal, tokens),
+        Flattened::Short(n, tokens) => tell_short(n, tokens),
+    }
+}
+
+// `0 LENGTH TOKENS`, and the flat string on the next line.
+fn tell_accepted(n: usize, tokens: u32, room: &[u8]) {
+    say(b"0 ");
+    count(n as u64);
+    say(b" ");
+    count(tokens as u64);
+    say(b"\n");
+    if n <= room.len() {
+        write_hex(&room[0..n]);
+    }
+    say(b"\n");
+}
+
+fn tell_short(n: usize, tokens: u32) {
+    say(b"13 ");
+    count(n as u64);
+    say(b" ");
+    count(tokens as u64);
+    say(b": the flat string has ");
+    count(n as u64);
+    say(b" bytes, more than the room of 1048576\n");
+}
+
+fn tell_refusal(refusal: Refusal, tokens: u32) {
+    match refusal {
+        Refusal::BudgetSpent => explain(3, b"the budget is spent after token ", tokens, b""),
+        Refusal::BytesLacking => explain(4, b"token ", tokens, b" lacks bytes"),
+        Refusal::TooManyOperands => explain(5, b"token ", tokens, b" is one operand too many"),
+        Refusal::UnknownOperator => explain(6, b"token ", tokens, b" is no operator that is taken"),
+        Refusal::NoIndex => explain(7, b"the call at token ", tokens, b" has no whole index"),
+        Refusal::IndexNotLast => tell_index(tokens),
+        Refusal::NoEntry => explain(9, b"the entry that token ", tokens, b" calls is not there"),
+        Refusal::TooDeep => explain(10, b"the call at token ", tokens, b" nests too deep"),
+        Refusal::TooManyHints => explain(11, b"token ", tokens, b" makes too many hints"),
+        Refusal::Composite => explain(
+            12,
+            b"token ",
+            tokens,
+            b" is an endchar that makes a composite",
+        ),
+    }
+}
+
+fn tell_index(tokens: u32) {
+    explain(
+        8,
+        b"the index of the call at token ",
+        tokens,
+        b" does not stand last in the flat string",
+    );
+}
+
+// The line of a refusal: its number, its tokens, and a sentence with the tokens in it.
+fn explain(number: u64, before: &[u8], tokens: u32, after: &[u8]) {
+    count(number);
+    say(b" ");
+    count(tokens as u64);
+    say(b": ");
+    say(before);
+    count(tokens as u64);
+    say(after);
+    say(b"\n");
+}
+
+fn say(words: &[u8]) {
+    io::write_all(STDOUT_FILENO, words);
+}
+
+fn count(n: u64) {
+    io::print_decimal(STDOUT_FILENO, n);
+}
