@@ -1,21 +1,21 @@
 // What came of a font part: document 01's number and its values, and a sentence.
 use crate::hex::write_hex;
-use crate::part::Answer;
+use crate::part::Reply;
 use libc::STDERR_FILENO;
 use libc::STDOUT_FILENO;
 use reading::Flattened;
 use reading::Refusal;
 
-// Tells an answer, over the room that it was lent; `size` is how many bytes came in.
-pub(crate) fn tell(answer: Answer, size: usize, room: &[u8]) {
-    match answer {
-        Answer::Flattened(flattened) => tell_flattened(flattened, room),
-        Answer::Headless => {
+// Tells a reply, over the room that it was lent; `size` is how many bytes came in.
+pub(crate) fn tell(reply: Reply, size: usize, room: &[u8]) {
+    match reply {
+        Reply::Flattened(flattened) => tell_flattened(flattened, room),
+        Reply::Headless => {
             tell_form(size);
             io::write_all(STDERR_FILENO, b", fewer than the three lengths take");
             tell_expected();
         }
-        Answer::Says(n) => {
+        Reply::Says(n) => {
             tell_form(size);
             io::write_all(STDERR_FILENO, b", and by its lengths it would have ");
             io::print_decimal(STDERR_FILENO, n as u64);

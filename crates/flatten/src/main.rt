@@ -63,8 +63,8 @@ fn answer_from(fd: i32, name: &[u8], asked: Asked) {
 fn answer_part(part: &[u8], asked: Asked) {
     let mut room = mebibyte();
     let profile = asked.profile;
-    let answer = flatten_part(part, profile, asked.budget, &mut room);
-    tell(answer, part.len(), &room);
+    let reply = flatten_part(part, profile, asked.budget, &mut room);
+    tell(reply, part.len(), &room);
 }
 
 // 1,048,576 zeros: the limit of the input and that of the flat string. They stand on the stack. The

@@ -4,8 +4,11 @@ use charstring::flatten;
 use number::Big;
 use reading::Flattened;
 use reading::Profile;
+ghost use mathlib.Core.Path.{_≡_};
+ghost use Rattle.reading.specs.Rules.{rulesOf};
+ghost use Rattle.flatten.specs.Part.{partOf, toldBy};
 
-pub(crate) enum Answer {
+pub(crate) enum Reply {
     Flattened(Flattened),
     // No font part: it has fewer bytes than the three lengths take.
     Headless,
@@ -14,23 +17,25 @@ pub(crate) enum Answer {
 }
 
 // Flattens the charstring of a font part into the start of room.
-pub(crate) fn flatten_part(part: &[u8], profile: Profile, budget: u32, room: &mut [u8]) -> Answer {
+pub(crate) fn flatten_part(part: &[u8], profile: Profile, budget: u32, room: &mut [u8]) -> Reply
+    ensures { λ r. ⌜ record { told = toldBy r; left = now (room .exit) } ≡ partOf (rulesOf profile) (now (part .entry)) budget (now (room .entry)) ⌝ }
+{
     let Big::Value(charstring) = number::read_be(part, 0, 4) else {
-        return Answer::Headless;
+        return Reply::Headless;
     };
     let Big::Value(global) = number::read_be(part, 4, 4) else {
-        return Answer::Headless;
+        return Reply::Headless;
     };
     let Big::Value(local) = number::read_be(part, 8, 4) else {
-        return Answer::Headless;
+        return Reply::Headless;
     };
     let globals = 12 + charstring as usize;
     let locals = globals + global as usize;
     let end = locals + local as usize;
     if end != part.len() {
-        return Answer::Says(end);
+        return Reply::Says(end);
     }
-    Answer::Flattened(flatten(
+    Reply::Flattened(flatten(
         &part[12..globals],
         &part[globals..locals],
         &part[locals..end],

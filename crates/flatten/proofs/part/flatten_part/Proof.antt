@@ -1,0 +1,137 @@
+-- `flatten_part` gives what its definition says of any bytes. Assumes nothing.
+use mathlib.Core.Path.{sym, _∙_}
+use native.Mathlib.Omega.{arith}
+use borrow.Author.Tests.{ne-eqb}
+use Rattle.flatten.specs.PartLaws.{length-lacks, says-other, cut-whole}
+use borrow.Author.Needs.{needs}
+use Rattle.flatten.proofs.part.flatten_part.Statement.{statement}
+use Rattle.flatten.proofs.part.flatten_part.Tie as tie
+
+read-be-requires : tie.Need-read-be-requires
+read-be-requires c κs = search needs
+
+enum-known-charstring : tie.Need-enum-known-charstring
+enum-known-charstring c = search needs
+
+enum-told : tie.Need-enum-told
+enum-told c = search needs
+
+returns : tie.Need-returns
+returns c = length-lacks _ _ _ _ 0 (omega arith) (sym (c .enum-told .given .1) ∙ c .before .before .read-be .ensures)
+
+read-be-requires-2 : tie.Need-read-be-requires-2
+read-be-requires-2 c κs = search needs
+
+enum-known-global : tie.Need-enum-known-global
+enum-known-global c = search needs
+
+enum-told-2 : tie.Need-enum-told-2
+enum-told-2 c = search needs
+
+returns-2 : tie.Need-returns-2
+returns-2 c = length-lacks _ _ _ _ 4 (omega arith) (sym (c .enum-told2 .given .1) ∙ c .before .before .read-be2 .ensures)
+
+read-be-requires-3 : tie.Need-read-be-requires-3
+read-be-requires-3 c κs = search needs
+
+enum-known-local : tie.Need-enum-known-local
+enum-known-local c = search needs
+
+enum-told-3 : tie.Need-enum-told-3
+enum-told-3 c = search needs
+
+returns-3 : tie.Need-returns-3
+returns-3 c = length-lacks _ _ _ _ 8 (omega arith) (sym (c .enum-told3 .given .1) ∙ c .before .before .read-be3 .ensures)
+
+cast-globals : tie.Need-cast-globals
+cast-globals c = search needs
+
+add-globals : tie.Need-add-globals
+add-globals c = search needs
+
+cast-locals : tie.Need-cast-locals
+cast-locals c = search needs
+
+add-locals : tie.Need-add-locals
+add-locals c = search needs
+
+cast-end : tie.Need-cast-end
+cast-end c = search needs
+
+add-end : tie.Need-add-end
+add-end c = search needs
+
+returns-4 : tie.Need-returns-4
+returns-4 c = says-other _ _ _ _ _ _ _ (sym (c .before .before .before .before .before .before .before .before .before .before .charstring .given .1) ∙ c .before .before .before .before .before .before .before .before .before .before .before .before .read-be .ensures) (sym (c .before .before .before .before .before .before .global .given .1) ∙ c .before .before .before .before .before .before .before .before .read-be2 .ensures) (sym (c .before .before .local .given .1) ∙ c .before .before .before .before .read-be3 .ensures) (ne-eqb _ _ (c .if1 .taken))
+
+sub-flatten : tie.Need-sub-flatten
+sub-flatten c = search needs
+
+part-flatten-start : tie.Need-part-flatten-start
+part-flatten-start c = search needs
+
+part-flatten-end : tie.Need-part-flatten-end
+part-flatten-end c = search needs
+
+sub-flatten-2 : tie.Need-sub-flatten-2
+sub-flatten-2 c = search needs
+
+part-flatten-start-2 : tie.Need-part-flatten-start-2
+part-flatten-start-2 c = search needs
+
+part-flatten-end-2 : tie.Need-part-flatten-end-2
+part-flatten-end-2 c = search needs
+
+sub-flatten-3 : tie.Need-sub-flatten-3
+sub-flatten-3 c = search needs
+
+part-flatten-start-3 : tie.Need-part-flatten-start-3
+part-flatten-start-3 c = search needs
+
+part-flatten-end-3 : tie.Need-part-flatten-end-3
+part-flatten-end-3 c = search needs
+
+flatten-requires : tie.Need-flatten-requires
+flatten-requires c κs = search needs
+
+same-length : tie.Need-same-length
+same-length c = search needs
+
+returns-5 : tie.Need-returns-5
+returns-5 c = cut-whole _ _ _ _ _ _ _ (sym (c .before .before .before .before .before .before .before .before .before .before .before .before .before .before .before .before .before .charstring .given .1) ∙ c .before .before .before .before .before .before .before .before .before .before .before .before .before .before .before .before .before .before .before .read-be .ensures) (sym (c .before .before .before .before .before .before .before .before .before .before .before .before .before .global .given .1) ∙ c .before .before .before .before .before .before .before .before .before .before .before .before .before .before .before .read-be2 .ensures) (sym (c .before .before .before .before .before .before .before .before .before .local .given .1) ∙ c .before .before .before .before .before .before .before .before .before .before .before .read-be3 .ensures) (omega arith) _ (c .before .before .flatten .ensures)
+
+pub flatten-part-spec : {M : Type 1} → statement M
+flatten-part-spec =
+    tie.close
+    (tie.spec
+    read-be-requires
+    enum-known-charstring
+    enum-told
+    returns
+    read-be-requires-2
+    enum-known-global
+    enum-told-2
+    returns-2
+    read-be-requires-3
+    enum-known-local
+    enum-told-3
+    returns-3
+    cast-globals
+    add-globals
+    cast-locals
+    add-locals
+    cast-end
+    add-end
+    returns-4
+    sub-flatten
+    part-flatten-start
+    part-flatten-end
+    sub-flatten-2
+    part-flatten-start-2
+    part-flatten-end-2
+    sub-flatten-3
+    part-flatten-start-3
+    part-flatten-end-3
+    flatten-requires
+    same-length
+    returns-5)
