@@ -3,10 +3,20 @@ SECONDS =
 SOURCES = ../shared
 export SOURCES
 
-.PHONY: test lib list differential faults fixed bench clean
+.PHONY: test run lib list differential faults fixed bench clean
 
 test:
 	@tools/test $(or $(SECONDS),60)
+
+# the program `flatten`, proved and built, on two font parts
+run:
+	@rt check flatten
+	@echo
+	@echo 'examples/squares.part, a glyph that calls one subroutine twice: 0, the length and the tokens run; then its flat string.'
+	@tools/run flatten examples/squares.part
+	@echo
+	@echo 'examples/forty.part, forty subroutines that each call the next twice: refused once the budget is spent, for the last would run 549755813888 times.'
+	@tools/run flatten examples/forty.part
 
 # what a user links, under target/lib: the proved archive, the header and a pkg-config file
 lib:
