@@ -16,7 +16,7 @@ use prog.Memory.{Memory}
 use prog.Routine.{Routine}
 use prog.Wp.{Heap}
 use Rattle.index.specs.Index.{Part}
-use Rattle.index.specs.View.{Seen, seen, viewOf, partSeen}
+use Rattle.index.specs.View.{seen, viewOf, partSeen}
 use Rattle.index.specs.declared.view.View.{View}
 use Rattle.index.proofs.view.view_index as view-index
 use Rattle.index.proofs.view.view_part as view-part

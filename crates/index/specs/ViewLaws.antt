@@ -1,18 +1,18 @@
 -- The laws of a view: what it is made of, and that an entry by the view of any bytes is the plain reader's. Assumes nothing.
 use mathlib.Core.Path.{_≡_, refl, sym, ap, _∙_, subst}
-use mathlib.Core.Bool.{Bool, true, false, cond, _||_}
+use mathlib.Core.Bool.{Bool, true, false, _||_}
 use mathlib.Core.List.{List, [], _++_}
 use Prim.Native.Nat.{ℕ, _+_, _-_, _<_, _≤_}
+use native.Mathlib.Nat.{le-refl}
 use native.Mathlib.Omega.{arith}
 use lib.Dec.{leb, ltb, eqb}
 use lib.ListN.{length, getD, take, drop, List·getD-append, List·getD-eq-default, take-append-drop}
 use lib.Seq.{length-take-le, getD-take}
 use borrow.Author.Tests.{lt-ltb, le-ltb, le-leb, lt-leb, eq-eqb, ne-eqb, ltb-true, ltb-false}
-use native.Mathlib.Nat.{le-refl}
 use Rattle.number.specs.Answer.{Answer, accepted, refused}
 use Rattle.index.specs.declared.view.Head.{Head}
-use Rattle.index.specs.Index.{Extent, Place, Part, dataStart, offset, extent, placeBy, place, partBy, partAt, bytesBy, startBy, placeIn}
-use Rattle.index.specs.IndexLaws.{has, lies, Full, reach, Inside, entries-full, taken-le, past-count, to-place, between-inside, or-true, past, part-none}
+use Rattle.index.specs.Index.{Extent, Place, dataStart, offset, extent, placeBy, place, partBy, partAt, bytesBy, startBy, placeIn}
+use Rattle.index.specs.IndexLaws.{has, Full, reach, Inside, entries-full, taken-le, past-count, to-place, between-inside, or-true, past, part-none}
 use Rattle.index.specs.OffsetLaws.{start-is, start-mono}
 use Rattle.index.specs.AfterLaws.{offset-after, bytes-after}
 use Rattle.index.specs.View.{Seen, viewBy, viewOf, placeSeen, partSeen}
