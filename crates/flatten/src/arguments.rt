@@ -3,6 +3,9 @@ use check::same;
 use libc::STDERR_FILENO;
 use reading::Profile;
 
+// The tokens that a run may take where no budget is given.
+const BUDGET: u32 = 1000000;
+
 // What was asked for.
 pub(crate) struct Asked {
     pub(crate) profile: Profile,
@@ -31,7 +34,7 @@ pub(crate) fn read_arguments() -> Arguments {
     let count = os::arg_count();
     let mut asked = Asked {
         profile: Profile::Plain,
-        budget: 1000000,
+        budget: BUDGET,
         file: 0,
         waits: false,
     };

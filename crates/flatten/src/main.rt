@@ -14,6 +14,7 @@ use crate::arguments::Asked;
 use crate::arguments::read_arguments;
 use crate::arguments::tell_wrong;
 use crate::part::flatten_part;
+use libc::STDERR_FILENO;
 use libc::STDIN_FILENO;
 ghost use mathlib.Core.Path.{_≡_};
 ghost use lib.ListN.{length};
@@ -35,11 +36,17 @@ fn answer_asked(asked: Asked) {
     let n = os::arg(file, &mut path);
     let fd = os::open_read(&path[..n]);
     if fd < 0 {
-        os::fail(&path[..n]);
+        tell_failed(&path[..n]);
         return;
     }
     answer_from(fd, &path[..n], asked);
     libc::close(fd);
+}
+
+// Says why the last call on this input failed.
+fn tell_failed(name: &[u8]) {
+    io::write_all(STDERR_FILENO, b"flatten: ");
+    os::fail(name);
 }
 
 // Reads the font part and answers it. One more read tells a longer input from its end, and a read
@@ -50,7 +57,7 @@ fn answer_from(fd: i32, name: &[u8], asked: Asked) {
     let mut more = [0u8; 1];
     let got = libc::read(fd, &mut more);
     if got < 0 {
-        os::fail(name);
+        tell_failed(name);
         return;
     }
     if got > 0 {
