@@ -76,9 +76,6 @@ fn compare(bytes: &[u8]) -> Result<(), String> {
 }
 
 fn measure(size: u8, bytes: &[u8]) {
-    let numbers = shuffled();
-    let index = parsed(bytes);
-
     row(
         size,
         "read, a call",
@@ -94,6 +91,24 @@ fn measure(size: u8, bytes: &[u8]) {
             }
         },
     );
+    measure_entries(size, bytes);
+    row(
+        size,
+        "well formed, an entry",
+        ENTRIES,
+        || {
+            black_box(formed(black_box(bytes)));
+        },
+        || {
+            black_box(formed_by_the_rust(black_box(bytes)));
+        },
+    );
+}
+
+/// An entry from the bytes, and where the Rust has read the INDEX before.
+fn measure_entries(size: u8, bytes: &[u8]) {
+    let numbers = shuffled();
+    let index = parsed(bytes);
     let each_entry = || {
         for &i in &numbers {
             black_box(entry(black_box(bytes), i));
@@ -109,17 +124,6 @@ fn measure(size: u8, bytes: &[u8]) {
             black_box(black_box(&index).get(i));
         }
     });
-    row(
-        size,
-        "well formed, an entry",
-        ENTRIES,
-        || {
-            black_box(formed(black_box(bytes)));
-        },
-        || {
-            black_box(formed_by_the_rust(black_box(bytes)));
-        },
-    );
 }
 
 fn row(size: u8, what: &str, things: u32, ours: impl Fn(), rust: impl Fn()) {

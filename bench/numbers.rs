@@ -46,42 +46,42 @@ fn main() -> ExitCode {
     println!("| what | numbers | ours | the Rust | the Rust / ours |");
     println!("|---|---|---|---|---|");
     for (name, form) in FORMS {
-        let bytes = numbers(form);
-        let (ours, rust) = (read_all(&bytes), parsed(&bytes));
-        let (mut kept, written) = (vec![0; bytes.len()], write_by_the_rust(&rust));
-        if ours.len() != NUMBERS
-            || rust.len() != NUMBERS
-            || write_all(&ours, &mut kept) != written.len()
-            || kept[..written.len()] != written[..]
-        {
-            eprintln!("{name}: the two sides differ");
+        if let Err(difference) = measure(name, &numbers(form)) {
+            eprintln!("{name}: {difference}");
             return ExitCode::FAILURE;
         }
-        row(
-            "read",
-            name,
-            timing::best_of(
-                PASSES,
-                [&mut || drop(black_box(read_all(black_box(&bytes)))), &mut || {
-                    drop(black_box(parsed(black_box(&bytes))))
-                }],
-            ),
-        );
-        row(
-            "written",
-            name,
-            timing::best_of(
-                PASSES,
-                [
-                    &mut || {
-                        black_box(write_all(black_box(&ours), &mut kept));
-                    },
-                    &mut || drop(black_box(write_by_the_rust(black_box(&rust)))),
-                ],
-            ),
-        );
     }
     ExitCode::SUCCESS
+}
+
+/// Both rows of a form, once both sides answer the same.
+fn measure(name: &str, bytes: &[u8]) -> Result<(), &'static str> {
+    let (ours, rust) = (read_all(bytes), parsed(bytes));
+    let mut room = vec![0; bytes.len()];
+    let length = write_all(&ours, &mut room);
+    if (ours.len(), rust.len()) != (NUMBERS, NUMBERS)
+        || room[..length] != write_by_the_rust(&rust)[..]
+    {
+        return Err("the two sides differ");
+    }
+    let read = timing::best_of(
+        PASSES,
+        [&mut || drop(black_box(read_all(black_box(bytes)))), &mut || {
+            drop(black_box(parsed(black_box(bytes))))
+        }],
+    );
+    row("read", name, read);
+    let written = timing::best_of(
+        PASSES,
+        [
+            &mut || {
+                black_box(write_all(black_box(&ours), &mut room));
+            },
+            &mut || drop(black_box(write_by_the_rust(black_box(&rust)))),
+        ],
+    );
+    row("written", name, written);
+    Ok(())
 }
 
 fn row(what: &str, name: &str, [ours, rust]: [f64; 2]) {

@@ -1,7 +1,7 @@
 //! Flattening by ours.
 
 use crate::fonts::Glyph;
-use crate::library::{ighzamrel_flatten, PLAIN};
+use crate::library::{flatten, Lent, PLAIN};
 
 /// What ours answers: the number, the length and the tokens.
 #[derive(Clone, Copy)]
@@ -12,24 +12,9 @@ pub struct Answer {
 }
 
 pub fn ours(glyph: &Glyph, budget: u32, out: &mut [u8]) -> Answer {
+    let Glyph { charstring, globals, locals } = *glyph;
     let (mut length, mut tokens) = (0, 0);
-    let Glyph { charstring, globals, locals } = glyph;
-    // SAFETY: each pointer is to as many bytes as the number behind it says, and the places outlive the call.
-    let number = unsafe {
-        ighzamrel_flatten(
-            charstring.as_ptr(),
-            charstring.len(),
-            globals.as_ptr(),
-            globals.len(),
-            locals.as_ptr(),
-            locals.len(),
-            PLAIN,
-            budget,
-            out.as_mut_ptr(),
-            out.len(),
-            &mut length,
-            &mut tokens,
-        )
-    };
+    let lent = Lent { charstring, globals, locals };
+    let number = flatten(lent, PLAIN, budget, out, &mut length, &mut tokens);
     Answer { number, length, tokens }
 }

@@ -59,6 +59,11 @@ pub fn run(program: &str, seconds: u64, seed: u64) -> Result<(), String> {
     for ((op, answer), count) in &counts {
         println!("operation {op}, answer {answer}: {count}");
     }
+    all_came(&counts)
+}
+
+/// That each operation gave each answer it can give.
+fn all_came(counts: &Counts) -> Result<(), String> {
     let missing: Vec<String> = GROUPS
         .iter()
         .flat_map(|group| group.answers)

@@ -45,7 +45,7 @@ unsafe extern "C" {
         length: *mut usize,
     ) -> u32;
 
-    pub fn ighzamrel_flatten(
+    fn ighzamrel_flatten(
         charstring: *const u8,
         charstring_size: usize,
         globals: *const u8,
@@ -64,3 +64,40 @@ unsafe extern "C" {
 /// The profiles as the library takes them.
 pub const PLAIN: u32 = 0;
 pub const STRICT: u32 = 1;
+
+/// A charstring with its lists, as the library takes them.
+#[derive(Clone, Copy)]
+pub struct Lent<'a> {
+    pub charstring: &'a [u8],
+    pub globals: &'a [u8],
+    pub locals: &'a [u8],
+}
+
+/// The answer's number; the places are set as the library sets them.
+pub fn flatten(
+    lent: Lent,
+    profile: u32,
+    budget: u32,
+    out: &mut [u8],
+    length: &mut usize,
+    tokens: &mut u32,
+) -> u32 {
+    let Lent { charstring, globals, locals } = lent;
+    // SAFETY: each pointer is to as many bytes as the number behind it says, or to one place, and all outlive the call.
+    unsafe {
+        ighzamrel_flatten(
+            charstring.as_ptr(),
+            charstring.len(),
+            globals.as_ptr(),
+            globals.len(),
+            locals.as_ptr(),
+            locals.len(),
+            profile,
+            budget,
+            out.as_mut_ptr(),
+            out.len(),
+            length,
+            tokens,
+        )
+    }
+}

@@ -2,7 +2,7 @@
 //! is a pattern, and so are the places for the length and the tokens.
 
 use crate::flattening::rules::Asked;
-use crate::library::{self, ighzamrel_flatten};
+use crate::library;
 
 /// How many bytes before and behind the lent ones are looked at.
 pub const GUARD: usize = 16;
@@ -63,23 +63,9 @@ fn pattern(salt: u8, i: usize) -> u8 {
 
 /// The proved function.
 pub fn flatten(asked: &Asked, lent: &mut Lent, places: &mut Places) -> u32 {
-    let room = lent.room;
-    let out = lent.bytes[GUARD..GUARD + room].as_mut_ptr();
-    // SAFETY: each pointer is to as many bytes as the number behind it says, or to one place, and all outlive the call.
-    unsafe {
-        ighzamrel_flatten(
-            asked.charstring.as_ptr(),
-            asked.charstring.len(),
-            asked.globals.as_ptr(),
-            asked.globals.len(),
-            asked.locals.as_ptr(),
-            asked.locals.len(),
-            if asked.strict { library::STRICT } else { library::PLAIN },
-            asked.budget,
-            out,
-            room,
-            &mut places.length,
-            &mut places.tokens,
-        )
-    }
+    let Asked { charstring, globals, locals, .. } = *asked;
+    let glyph = library::Lent { charstring, globals, locals };
+    let profile = if asked.strict { library::STRICT } else { library::PLAIN };
+    let out = &mut lent.bytes[GUARD..GUARD + lent.room];
+    library::flatten(glyph, profile, asked.budget, out, &mut places.length, &mut places.tokens)
 }

@@ -115,18 +115,23 @@ fn accepted_rows_without_room_give_their_length_and_tokens() {
             tokens: Some(tokens),
         };
         for room in 0..flat.len() {
-            let answer = lent(room, |out| {
-                flatten(charstring, EMPTY_INDEX, locals, Plain, AMPLE, out)
-            });
-            assert_eq!(
-                answer,
-                (Err(refused), vec![BLANK; room]),
-                "{charstring:02X?}"
-            );
-            let answer = flatten_to_vec(charstring, EMPTY_INDEX, locals, Plain, AMPLE, room);
-            assert_eq!(answer, Err(refused), "{charstring:02X?}");
+            both_refuse(charstring, locals, room, refused);
         }
     }
+}
+
+/// Both functions refuse so, and no lent byte changes.
+fn both_refuse(charstring: &[u8], locals: &[u8], room: usize, refused: Refused) {
+    let answer = lent(room, |out| {
+        flatten(charstring, EMPTY_INDEX, locals, Plain, AMPLE, out)
+    });
+    assert_eq!(
+        answer,
+        (Err(refused), vec![BLANK; room]),
+        "{charstring:02X?}"
+    );
+    let answer = flatten_to_vec(charstring, EMPTY_INDEX, locals, Plain, AMPLE, room);
+    assert_eq!(answer, Err(refused), "{charstring:02X?}");
 }
 
 #[test]
@@ -148,17 +153,7 @@ fn rows_without_budget_are_refused_with_it() {
 #[test]
 fn refused_rows_change_no_byte() {
     for (charstring, locals, refusal, tokens) in REFUSED {
-        let refused = run(refusal, tokens);
-        let answer = lent(ROOM, |out| {
-            flatten(charstring, EMPTY_INDEX, locals, Plain, AMPLE, out)
-        });
-        assert_eq!(
-            answer,
-            (Err(refused), vec![BLANK; ROOM]),
-            "{charstring:02X?}"
-        );
-        let answer = flatten_to_vec(charstring, EMPTY_INDEX, locals, Plain, AMPLE, ROOM);
-        assert_eq!(answer, Err(refused), "{charstring:02X?}");
+        both_refuse(charstring, locals, ROOM, run(refusal, tokens));
     }
 }
 
