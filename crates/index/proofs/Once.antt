@@ -21,6 +21,10 @@ use Rattle.index.proofs.entry.read_entry.Kinds as entry-kinds
 use Rattle.index.proofs.entry.read_entry.Reads as entry-reads
 use Rattle.index.proofs.entry.entry_part.Kinds as part-kinds
 use Rattle.index.proofs.entry.entry_part.Reads as part-reads
+use Rattle.index.proofs.entry.entry_in.Kinds as in-kinds
+use Rattle.index.proofs.entry.entry_in.Reads as in-reads
+use Rattle.index.proofs.entry.part_in.Kinds as part-in-kinds
+use Rattle.index.proofs.entry.part_in.Reads as part-in-reads
 use Rattle.index.proofs.list.well_formed.Kinds as formed-kinds
 use Rattle.index.proofs.list.well_formed.Reads as formed-reads
 
@@ -76,6 +80,10 @@ module _ (κs : Lfts 1) where
       → entry-reads.Post κs a r x → entry-reads.Post κs a r′ x′ → r ≡ r′
   read-entry-once a r r′ x x′ p p′ = one entryRead entry-of entry-undo r r′ (p ∙ sym p′)
 
+  pub entry-in-once : (a : Dens κs in-kinds.ps) (r r′ : resT in-kinds.r κs .Denot) (x x′ : AtExit (endedOf 1 in-kinds.ps in-kinds.r) κs)
+      → in-reads.Post κs a r x → in-reads.Post κs a r′ x′ → r ≡ r′
+  entry-in-once a r r′ x x′ p p′ = one entryRead entry-of entry-undo r r′ (p ∙ sym p′)
+
   pub well-formed-once : (a : Dens κs formed-kinds.ps) (r r′ : resT formed-kinds.r κs .Denot) (x x′ : AtExit (endedOf 1 formed-kinds.ps formed-kinds.r) κs)
       → formed-reads.Post κs a r x → formed-reads.Post κs a r′ x′ → r ≡ r′
   well-formed-once a r r′ x x′ p p′ = one formed formed-of formed-undo r r′ (p ∙ sym p′)
@@ -84,3 +92,7 @@ module _ (κs : Lfts 1) where
   pub entry-part-once : (a : Dens κs part-kinds.ps) (r r′ : resT part-kinds.r κs .Denot) (x x′ : AtExit (endedOf 1 part-kinds.ps part-kinds.r) κs)
       → part-reads.Post κs a r x → part-reads.Post κs a r′ x′ → (r .ptr ≡ r′ .ptr) × (r .now ≡ r′ .now)
   entry-part-once a r r′ x x′ p p′ = let e = p ∙ sym p′ in (ap (λ (q : Part). q .at) e, ap (λ (q : Part). q .bytes) e)
+
+  pub part-in-once : (a : Dens κs part-in-kinds.ps) (r r′ : resT part-in-kinds.r κs .Denot) (x x′ : AtExit (endedOf 1 part-in-kinds.ps part-in-kinds.r) κs)
+      → part-in-reads.Post κs a r x → part-in-reads.Post κs a r′ x′ → (r .ptr ≡ r′ .ptr) × (r .now ≡ r′ .now)
+  part-in-once a r r′ x x′ p p′ = let e = p ∙ sym p′ in (ap (λ (q : Part). q .at) e, ap (λ (q : Part). q .bytes) e)

@@ -16,7 +16,7 @@ use prog.Memory.{Memory}
 use prog.Routine.{Routine}
 use prog.Wp.{Heap}
 use Rattle.index.specs.Index.{Part}
-use Rattle.index.specs.View.{seen, viewOf, partSeen}
+use Rattle.index.specs.View.{seen, viewOf, viewPart}
 use Rattle.index.specs.declared.view.View.{View}
 use Rattle.index.proofs.view.view_index as view-index
 use Rattle.index.proofs.view.view_part as view-part
@@ -36,7 +36,7 @@ abbrev ViewIs : RefT (List ℕ) → View → Type 0
 ViewIs s r = seen r ≡ viewOf 2 (ptr s) (now s)
 
 abbrev PartIs : View → ℕ → RefT (List ℕ) → Type 0
-PartIs v i r = partOf r ≡ partSeen 2 (seen v) i
+PartIs v i r = partOf r ≡ viewPart 2 (seen v) i
 
 module _ {M : Type 1} (𝓤 : URA M) (H : Heap 𝓤) (A : Atoms 𝓤) (mem : Memory → SProp 𝓤) (run : Routine → Fun 𝓤) (κs : Lfts 1) where
   pub view-index-says : (a : Args view-index.signature κs) (r : View) (x : AtExit view-index.ended κs)

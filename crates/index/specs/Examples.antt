@@ -4,8 +4,8 @@ use mathlib.Core.List.{List, [], _∷_}
 use Prim.Native.Nat.{ℕ}
 use Rattle.number.specs.Answer.{refused}
 use Rattle.number.specs.BigEndian.{beAt}
-use Rattle.index.specs.Index.{offset, byLast, bySize, byCount, extent, absent, placeBy, placeIn, place, bytesBy, part, startBy, partBy}
-use Rattle.index.specs.View.{Seen, viewBy, viewOf, placeSeen, partSeen}
+use Rattle.index.specs.Index.{offset, byLast, bySize, byCount, extent, absent, placeBy, placeIn, place, placeSeen, bytesBy, part, startBy, partBy}
+use Rattle.index.specs.View.{Seen, viewBy, viewOf, viewPart}
 use Rattle.index.specs.Formed.{yes, unread, emptied, bad, entriesFrom, formedBy, formation}
 use Rattle.index.specs.IndexLaws.{has, lies}
 
@@ -53,6 +53,6 @@ unfolding viewOf viewBy extent byCount bySize byLast offset beAt
 views = (refl, refl, refl, refl)
 
 -- an entry by a view that `two` has, and by views that no bytes have
-pub seen : (partSeen 2 (view two 2 1) 0 ≡ record { at = (1, 14); bytes = 0x0E ∷ [] }) × (partSeen 2 (view two 2 5) 0 ≡ record { at = (1, 8); bytes = [] }) × (partSeen 2 (view two 9 1) 0 ≡ record { at = (1, 8); bytes = [] })
-unfolding partSeen placeSeen partBy startBy bytesBy placeBy absent offset beAt
+pub seen : (viewPart 2 (view two 2 1) 0 ≡ record { at = (1, 14); bytes = 0x0E ∷ [] }) × (viewPart 2 (view two 2 5) 0 ≡ record { at = (1, 8); bytes = [] }) × (viewPart 2 (view two 9 1) 0 ≡ record { at = (1, 8); bytes = [] })
+unfolding placeSeen partBy startBy bytesBy placeBy absent offset beAt
 seen = (refl, refl, refl)

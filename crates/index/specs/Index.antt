@@ -77,6 +77,13 @@ placeIn w s i (refused k v) = refused k v
 unfoldable pub place : ℕ → List ℕ → ℕ → Answer Place
 place w s i = placeIn w s i (extent w s)
 
+-- Entry i where the count n and the offset size z are known, and s is the INDEX's own bytes: its data end with them. It is absent too where
+-- z is not 1 to 4, or offsets are lacking.
+unfoldable pub placeSeen : ℕ → List ℕ → ℕ → ℕ → ℕ → Answer Place
+placeSeen w s n z i =
+    cond (leb n i || (eqb z 0 || (ltb 4 z || ltb (length s) (dataStart w n z)))) (refused 25 [])
+    (placeBy i (record { entries = n; taken = length s }) (dataStart w n z) (offset w s z i) (offset w s z (i + 1)))
+
 unfoldable pub bytesBy : List ℕ → Answer Place → List ℕ
 bytesBy s (accepted p) = take (p .size) (drop (p .start) s)
 bytesBy s (refused k v) = []
@@ -103,6 +110,10 @@ partBy at s x = record { at = startBy at x; bytes = bytesBy s x }
 -- entry i of the INDEX at the start of s, whose first byte stands at `at`
 abbrev pub partAt : ℕ → ℕ × ℕ → List ℕ → ℕ → Part
 partAt w at s i = partBy at s (place w s i)
+
+-- and where the count n and the offset size z are known
+abbrev pub partSeen : ℕ → ℕ × ℕ → List ℕ → ℕ → ℕ → ℕ → Part
+partSeen w at s n z i = partBy at s (placeSeen w s n z i)
 
 -- ---- what the readers' answers say, by document 01's numbers
 

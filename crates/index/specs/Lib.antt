@@ -4,6 +4,7 @@ pub mod OffsetLaws
 pub mod IndexLaws
 pub mod FormedLaws
 pub mod AfterLaws
+pub mod SeenLaws
 pub mod View
 pub mod ViewLaws
 pub mod Examples

@@ -1,14 +1,12 @@
 -- A view of one INDEX: its own bytes with its count and its offset size, and an entry found by these alone.
--- As in Index, the count has w bytes, s is the bytes, n the count and z the offset size.
-use Prim.Native.Nat.{ℕ, _+_}
-use mathlib.Core.Bool.{cond, _||_}
+-- As in Index, the count has w bytes, and s is the bytes.
+use Prim.Native.Nat.{ℕ}
 use mathlib.Core.List.{List, []}
-use lib.ListN.{length, getD, take}
-use lib.Dec.{leb, ltb, eqb}
+use lib.ListN.{getD, take}
 use denote.Ref.{ptr, now}
 use Rattle.number.specs.Answer.{Answer, accepted, refused}
 use Rattle.index.specs.declared.view.View.{View}
-use Rattle.index.specs.Index.{Extent, Place, Part, dataStart, offset, extent, placeBy, partBy}
+use Rattle.index.specs.Index.{Extent, Part, extent, partSeen}
 
 -- what a view holds: where its bytes start, the bytes, the count and the offset size
 pub record Seen : Type 0 where
@@ -32,14 +30,6 @@ viewBy w at s (refused k v) = record { at = at; bytes = []; count = 0; size = 0 
 unfoldable pub viewOf : ℕ → ℕ × ℕ → List ℕ → Seen
 viewOf w at s = viewBy w at s (extent w s)
 
--- ---- an entry by a view
-
--- Entry i, where there are so many entries, and their offsets of that size are there. The data end with the bytes.
-unfoldable pub placeSeen : ℕ → List ℕ → ℕ → ℕ → ℕ → Answer Place
-placeSeen w s n z i =
-    cond (leb n i || (eqb z 0 || (ltb 4 z || ltb (length s) (dataStart w n z)))) (refused 25 [])
-    (placeBy i (record { entries = n; taken = length s }) (dataStart w n z) (offset w s z i) (offset w s z (i + 1)))
-
--- its bytes where they stand
-unfoldable pub partSeen : ℕ → Seen → ℕ → Part
-partSeen w v i = partBy (v .at) (v .bytes) (placeSeen w (v .bytes) (v .count) (v .size) i)
+-- the bytes of entry i where they stand, by what a view holds
+abbrev pub viewPart : ℕ → Seen → ℕ → Part
+viewPart w v i = partSeen w (v .at) (v .bytes) (v .count) (v .size) i

@@ -7,7 +7,7 @@ ghost use mathlib.Core.Path.{_≡_};
 ghost use Prim.Native.Nat.{_+_, _<_, _≤_};
 ghost use lib.ListN.{length};
 ghost use denote.Ref.{ptr};
-ghost use Rattle.index.specs.Index.{dataStart, offset, placeBy, place, partBy, partAt, entryRead};
+ghost use Rattle.index.specs.Index.{dataStart, offset, placeBy, place, placeSeen, partBy, partAt, partSeen, entryRead};
 ghost use Rattle.index.specs.IndexLaws.{Inside};
 
 // What reading an entry finds.
@@ -38,8 +38,28 @@ pub fn read_entry(s: &[u8], number: u32) -> EntryRead
     }
 }
 
+// Entry `number` where the count and the offset size are known, and s is the INDEX's own bytes. Any
+// count and size may be given, so both are tried.
+pub fn entry_in(s: &[u8], count: u32, size: usize, number: u32) -> EntryRead
+    ensures { λ r. ⌜ entryRead r ≡ placeSeen 2 (now (s .entry)) count size number ⌝ }
+{
+    if count <= number {
+        return EntryRead::Absent;
+    }
+    if size == 0 {
+        return EntryRead::Absent;
+    }
+    if 4 < size {
+        return EntryRead::Absent;
+    }
+    if s.len() < 3 + (count as usize + 1) * size {
+        return EntryRead::Absent;
+    }
+    entry_between(s, count, size, s.len(), number)
+}
+
 // Entry `number` by its two offsets, of an INDEX that has it and all its offsets, and ends at `end`.
-pub(crate) fn entry_between(s: &[u8], count: u32, size: usize, end: usize, number: u32) -> EntryRead
+fn entry_between(s: &[u8], count: u32, size: usize, end: usize, number: u32) -> EntryRead
     requires { ⌜ (number < count) × (0 < size) × (size ≤ 4) × (dataStart 2 count size ≤ length (now s)) ⌝ }
     ensures { λ r. ⌜ entryRead r ≡ placeBy number (record { entries = count; taken = end }) (dataStart 2 count size) (offset 2 (now (s .entry)) size number) (offset 2 (now (s .entry)) size (number + 1)) ⌝ }
 {
@@ -68,8 +88,15 @@ pub fn entry_part(s: &[u8], number: u32) -> &[u8]
     part_of(s, read_entry(s, number))
 }
 
+// As `entry_part`, but by `entry_in`.
+pub fn part_in(s: &[u8], count: u32, size: usize, number: u32) -> &[u8]
+    ensures { λ r. ⌜ record { at = ptr r; bytes = now r } ≡ partSeen 2 (ptr (s .entry)) (now (s .entry)) count size number ⌝ }
+{
+    part_of(s, entry_in(s, count, size, number))
+}
+
 // The part of s that an answer tells of.
-pub(crate) fn part_of(s: &[u8], entry: EntryRead) -> &[u8]
+fn part_of(s: &[u8], entry: EntryRead) -> &[u8]
     requires { ⌜ Inside (now s) (entryRead entry) ⌝ }
     ensures { λ r. ⌜ record { at = ptr r; bytes = now r } ≡ partBy (ptr (s .entry)) (now (s .entry)) (entryRead entry) ⌝ }
 {

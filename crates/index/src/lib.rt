@@ -7,7 +7,9 @@ mod view;
 mod write;
 
 pub use crate::entry::EntryRead;
+pub use crate::entry::entry_in;
 pub use crate::entry::entry_part;
+pub use crate::entry::part_in;
 pub use crate::entry::read_entry;
 pub use crate::list::Formed;
 pub use crate::list::well_formed;

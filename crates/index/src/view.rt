@@ -1,15 +1,13 @@
 // A view of one INDEX: it keeps the INDEX's bytes and what each look-up would else find anew. A
 // struct that holds a slice is walked by hand, so the work is in functions with plain parameters.
-use crate::entry::EntryRead;
-use crate::entry::entry_between;
-use crate::entry::part_of;
+use crate::entry::part_in;
 use crate::read::IndexRead;
 use crate::read::read_index;
 ghost use mathlib.Core.Path.{_≡_};
 ghost use lib.ListN.{take};
 ghost use denote.Ref.{ptr};
-ghost use Rattle.index.specs.Index.{partAt, entryRead};
-ghost use Rattle.index.specs.View.{seen, viewOf, placeSeen, partSeen};
+ghost use Rattle.index.specs.Index.{partAt};
+ghost use Rattle.index.specs.View.{seen, viewOf, viewPart};
 ghost use Rattle.index.specs.ViewLaws.{headOf};
 
 // An INDEX's own bytes, how many entries it has, and of how many bytes an offset is. Of bytes that
@@ -34,7 +32,7 @@ pub fn view_index<'a>(s: &'a [u8]) -> View<'a>
 
 // The bytes of entry `number` where they stand, or the empty part at the view's start.
 pub fn view_part<'a>(v: View<'a>, number: u32) -> &'a [u8]
-    ensures { λ r. ⌜ record { at = ptr r; bytes = now r } ≡ partSeen 2 (seen (v .entry)) number ⌝ }
+    ensures { λ r. ⌜ record { at = ptr r; bytes = now r } ≡ viewPart 2 (seen (v .entry)) number ⌝ }
 {
     part_in(v.bytes, v.count, v.size, number)
 }
@@ -85,30 +83,4 @@ fn first(s: &[u8], n: usize) -> &[u8]
         return s;
     }
     &s[0..n]
-}
-
-// `view_part` of a view of these.
-fn part_in(s: &[u8], count: u32, size: usize, number: u32) -> &[u8]
-    ensures { λ r. ⌜ record { at = ptr r; bytes = now r } ≡ partSeen 2 (record { at = ptr (s .entry); bytes = now (s .entry); count = count; size = size }) number ⌝ }
-{
-    part_of(s, entry_in(s, count, size, number))
-}
-
-// Where that entry lies. A view may be made of any count and size, so both are tried.
-fn entry_in(s: &[u8], count: u32, size: usize, number: u32) -> EntryRead
-    ensures { λ r. ⌜ entryRead r ≡ placeSeen 2 (now (s .entry)) count size number ⌝ }
-{
-    if count <= number {
-        return EntryRead::Absent;
-    }
-    if size == 0 {
-        return EntryRead::Absent;
-    }
-    if 4 < size {
-        return EntryRead::Absent;
-    }
-    if s.len() < 3 + (count as usize + 1) * size {
-        return EntryRead::Absent;
-    }
-    entry_between(s, count, size, s.len(), number)
 }

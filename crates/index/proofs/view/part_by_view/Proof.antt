@@ -38,7 +38,7 @@ use denote.Triple.Walked.{says, Stays, stay-none, stay-none-slice, walkOf, goes-
 use denote.Exit.{yes}
 use denote.Triple.Clauses.{ensured, lasts}
 use Rattle.index.specs.Index.{Part, partAt}
-use Rattle.index.specs.View.{Seen, seen, viewOf, partSeen}
+use Rattle.index.specs.View.{Seen, seen, viewOf, viewPart}
 use Rattle.index.specs.ViewLaws.{view-is-reader}
 use Rattle.index.specs.declared.view.View.{View}
 use Rattle.index.proofs.view.View as T
@@ -98,7 +98,7 @@ module _ {M : Type 1} (𝓤 : URA M) (H : Heap 𝓤) (A : Atoms 𝓤) (W : Given
   Made r = _≡_ {A = Seen} (seen r) (viewOf 2 (ptr s) (now s))
 
   abbrev Held : View → RefT (List ℕ) → Type 0
-  Held r t = _≡_ {A = Part} (record { at = ptr t; bytes = now t }) (partSeen 2 (seen r) n)
+  Held r t = _≡_ {A = Part} (record { at = ptr t; bytes = now t }) (viewPart 2 (seen r) n)
 
   abbrev Found : RefT (List ℕ) → Type 0
   Found t = _≡_ {A = Part} (record { at = ptr t; bytes = now t }) (partAt 2 (ptr s) (now s) n)
@@ -155,7 +155,7 @@ module _ {M : Type 1} (𝓤 : URA M) (H : Heap 𝓤) (A : Atoms 𝓤) (W : Given
         land ! (from ! (stop !)) (init ! 9 refl (shr-slice-lawful 𝓤 H A W (named 0) κ u8 .typed t (u′ ∷ []) is′ .0)) $
         returns ! (look ! 9 refl) $ forget ! 3 refl $ forget ! 5 refl $ forget ! 7 refl $ forget ! 9 refl $
         move ! (9 ∷ 10 ∷ []) $ free1 ! $ move ! (7 ∷ 8 ∷ []) $ free1 ! $ move ! (5 ∷ 6 ∷ []) $ free1 ! $ move ! (3 ∷ 4 ∷ []) $ free1 ! $ free0 ! $
-        by ! (exits t u′ (e′ ∙ ap (λ (x : Seen). partSeen 2 x n) e ∙ view-is-reader 2 (ptr s) (now s) n))))))))))))))
+        by ! (exits t u′ (e′ ∙ ap (λ (x : Seen). viewPart 2 x n) e ∙ view-is-reader 2 (ptr s) (now s) n))))))))))))))
 
 module _ {M : Type 1} (𝓤 : URA M) (H : Heap 𝓤) (A : Atoms 𝓤) (W : Given 𝓤 H A) (mem : Memory → SProp 𝓤) (run : Routine → Fun 𝓤) where
   part-by-view-walks : (C : Calls 𝓤 H) (Λ : Loops 𝓤 H) → FmC 𝓤 H (W .laws) C → Triple 𝓤 (C #view-index) (ViewIndex 𝓤 H A mem run) → Triple 𝓤 (C #view-part) (ViewPart 𝓤 H A mem run)

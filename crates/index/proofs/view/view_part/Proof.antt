@@ -43,14 +43,14 @@ use denote.Triple.Walked.{says, Stays, stay-none, walkOf, goes-none, Walks, ends
 use denote.Exit.{yes}
 use denote.Triple.Clauses.{ensured, lasts}
 use Rattle.index.specs.Index.{Part}
-use Rattle.index.specs.View.{seen, partSeen}
+use Rattle.index.specs.View.{seen, viewPart}
 use Rattle.index.specs.declared.view.View.{View}
 use Rattle.index.proofs.view.View as T
 use Rattle.index.proofs.view.View.Laws as T′
-use Rattle.index.proofs.view.part_in as part-in
-use Rattle.index.proofs.view.part_in.Symbol as part-in-def
-use Rattle.index.proofs.view.part_in.Symbol.{name as #part-in}
-use Rattle.index.proofs.view.part_in.Met as part-in-thm
+use Rattle.index.proofs.entry.part_in as part-in
+use Rattle.index.proofs.entry.part_in.Symbol as part-in-def
+use Rattle.index.proofs.entry.part_in.Symbol.{name as #part-in}
+use Rattle.index.proofs.entry.part_in.Met as part-in-thm
 use Rattle.index.proofs.view.view_part.Key.{name as #view-part}
 use Rattle.index.proofs.view.view_part as view-part
 use Rattle.index.proofs.view.view_part.Statement as stated
@@ -90,7 +90,7 @@ module _ {M : Type 1} (𝓤 : URA M) (H : Heap 𝓤) (A : Atoms 𝓤) (W : Given
   S = ShrSlice (named 0) κ u8
 
   abbrev Found : RefT (List ℕ) → Type 0
-  Found r = _≡_ {A = Part} (record { at = ptr r; bytes = now r }) (partSeen 2 (seen d) n)
+  Found r = _≡_ {A = Part} (record { at = ptr r; bytes = now r }) (viewPart 2 (seen d) n)
 
   -- the struct's type and laws, and d's fields' values
   abbrev D : Declared
@@ -173,4 +173,4 @@ view-part-spec 𝓤 H 𝓜 𝓖 𝓡 =
     entered 𝓤 H (tripleOf 𝓤 H (𝓖 .A) view-part.signature (view-part.spec 𝓤 H (𝓖 .A) (𝓜 .mem) (𝓡 .run)))
     (tables 𝓤 H 𝓜 𝓡 code.env .C) (tables 𝓤 H 𝓜 𝓡 code.env .Λ) #view-part code.function (code.unfolded 𝓤 H 𝓜 𝓡)
     (view-part-meets 𝓤 H (𝓖 .A) (givenOf 𝓤 H 𝓜 𝓖) (𝓜 .mem) (𝓡 .run) (tablesOf 𝓤 H 𝓜 (tables 𝓤 H 𝓜 𝓡 code.env))
-    (cited 𝓤 H (PartIn 𝓤 H (𝓖 .A) (𝓜 .mem) (𝓡 .run)) 𝓜 𝓡 code.env #part-in part-in-def.routine code.calls-index·view·part-in (part-in-thm.met 𝓤 H 𝓜 𝓖 𝓡)))
+    (cited 𝓤 H (PartIn 𝓤 H (𝓖 .A) (𝓜 .mem) (𝓡 .run)) 𝓜 𝓡 code.env #part-in part-in-def.routine code.calls-index·entry·part-in (part-in-thm.met 𝓤 H 𝓜 𝓖 𝓡)))

@@ -1,12 +1,12 @@
--- `index::view::entry_in` meets its contract. Assumes nothing.
+-- `index::entry::entry_in` meets its contract. Assumes nothing.
 use mathlib.Core.Path.{_∙_}
 use Prim.Native.Nat.{_+_, _*_, _≤_}
 use native.Mathlib.Omega.{arith}
 use borrow.Author.Needs.{needs}
 use Rattle.index.specs.OffsetLaws.{product-small}
-use Rattle.index.specs.ViewLaws.{seen-past, seen-unsized, seen-oversized, seen-short, seen-between}
-use Rattle.index.proofs.view.entry_in.Statement.{statement}
-use Rattle.index.proofs.view.entry_in.Tie as tie
+use Rattle.index.specs.SeenLaws.{seen-past, seen-unsized, seen-oversized, seen-short, seen-between}
+use Rattle.index.proofs.entry.entry_in.Statement.{statement}
+use Rattle.index.proofs.entry.entry_in.Tie as tie
 
 -- where the size is known to be 1 to 4
 small : (c : tie.Else3) → (c .before .before .before .before .args .count + 1) * c .before .before .before .before .args .size ≤ 17179869184
