@@ -71,7 +71,7 @@ pub(crate) fn read_entry_by_view(args: &[u8], room: &mut [u8]) -> Line {
     }
     let number = word_at(args, 0);
     let s = bytes_at(args, 4);
-    entry_line(s, number, index::part_by_view(s, number), room)
+    entry_line(s, number, view::part_by_view(s, number), room)
 }
 
 // `0 COUNT TAKEN`.

@@ -5,16 +5,15 @@ use Prim.Native.Nat.{ℕ}
 use Rattle.number.specs.Answer.{refused}
 use Rattle.number.specs.BigEndian.{beAt}
 use Rattle.index.specs.Index.{offset, byLast, bySize, byCount, extent, absent, placeBy, placeIn, place, placeSeen, bytesBy, part, startBy, partBy}
-use Rattle.index.specs.View.{Seen, viewBy, viewOf, viewPart}
 use Rattle.index.specs.Formed.{yes, unread, emptied, bad, entriesFrom, formedBy, formation}
 use Rattle.index.specs.IndexLaws.{has, lies}
 
 -- the elements `0E` and empty
-abbrev two : List ℕ
+abbrev pub two : List ℕ
 two = 0 ∷ 2 ∷ 1 ∷ 1 ∷ 2 ∷ 2 ∷ 0x0E ∷ []
 
 -- a last offset of 0, though the offsets of entry 0 look present
-abbrev none : List ℕ
+abbrev pub none : List ℕ
 none = 0 ∷ 2 ∷ 1 ∷ 1 ∷ 1 ∷ 0 ∷ []
 
 -- a first offset that is not 1; and an empty entry at the very end
@@ -43,16 +42,3 @@ parts = (refl, refl, refl)
 pub lists : (formation 2 two ≡ yes 2) × (formation 2 none ≡ emptied) × (formation 2 late ≡ yes 1) × (formation 2 (0 ∷ 0 ∷ []) ≡ yes 0) × (formation 2 [] ≡ unread 20) × (formation 2 back ≡ bad 1)
 unfolding formation formedBy entriesFrom place placeIn placeBy absent extent byCount bySize byLast offset beAt
 lists = (refl, refl, refl, refl, refl, refl)
-
--- the views of lent bytes that start at (1, 8): with a byte behind the INDEX; emptied; of two bytes; of none
-abbrev view : List ℕ → ℕ → ℕ → Seen
-view bytes count size = record { at = (1, 8); bytes = bytes; count = count; size = size }
-
-pub views : (viewOf 2 (1, 8) (0 ∷ 1 ∷ 1 ∷ 1 ∷ 2 ∷ 0x0B ∷ 7 ∷ []) ≡ view (0 ∷ 1 ∷ 1 ∷ 1 ∷ 2 ∷ 0x0B ∷ []) 1 1) × (viewOf 2 (1, 8) none ≡ view none 0 1) × (viewOf 2 (1, 8) (0 ∷ 0 ∷ 7 ∷ []) ≡ view (0 ∷ 0 ∷ []) 0 0) × (viewOf 2 (1, 8) (0 ∷ 1 ∷ 5 ∷ []) ≡ view [] 0 0)
-unfolding viewOf viewBy extent byCount bySize byLast offset beAt
-views = (refl, refl, refl, refl)
-
--- an entry by a view that `two` has, and by views that no bytes have
-pub seen : (viewPart 2 (view two 2 1) 0 ≡ record { at = (1, 14); bytes = 0x0E ∷ [] }) × (viewPart 2 (view two 2 5) 0 ≡ record { at = (1, 8); bytes = [] }) × (viewPart 2 (view two 9 1) 0 ≡ record { at = (1, 8); bytes = [] })
-unfolding placeSeen partBy startBy bytesBy placeBy absent offset beAt
-seen = (refl, refl, refl)

@@ -5,8 +5,6 @@ pub mod IndexLaws
 pub mod FormedLaws
 pub mod AfterLaws
 pub mod SeenLaws
-pub mod View
-pub mod ViewLaws
 pub mod Examples
 pub mod Writing
 pub mod WritingLaws

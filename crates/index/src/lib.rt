@@ -3,7 +3,6 @@ mod entry;
 mod list;
 mod offset;
 mod read;
-mod view;
 mod write;
 
 pub use crate::entry::EntryRead;
@@ -15,9 +14,5 @@ pub use crate::list::Formed;
 pub use crate::list::well_formed;
 pub use crate::read::IndexRead;
 pub use crate::read::read_index;
-pub use crate::view::View;
-pub use crate::view::part_by_view;
-pub use crate::view::view_index;
-pub use crate::view::view_part;
 pub use crate::write::IndexWritten;
 pub use crate::write::write_index;

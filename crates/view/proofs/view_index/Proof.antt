@@ -1,4 +1,4 @@
--- `index::view::view_index` meets its contract: a walk of its MIR, by hand. The head that one call returns is held in a local, its first number is passed to the next call beside the slice, and the struct is made of what that returns and the head's other numbers. All that the proof knows of `head_of` and of `first` is that each meets its contract.
+-- `view::view_index` meets its contract: a walk of its MIR, by hand. The head that one call returns is held in a local, its first number is passed to the next call beside the slice, and the struct is made of what that returns and the head's other numbers. All that the proof knows of `head_of` and of `first` is that each meets its contract.
 -- A `&[u8]` is Copy, so what it owns is had again for each call, and once for the exit. What a call returns is told by its type's laws: so the machine values in the two locals are rewritten to those of the head and of the slice.
 -- Assumes nothing.
 use mathlib.Core.Path.{_≡_, refl, ap}
@@ -39,25 +39,25 @@ use denote.Triple.Table.{entered, cited}
 use denote.Triple.Walked.{says, Stays, stay-none-slice, walkOf, goes-none-slice, Walks, ends-at, walked, walk-meets}
 use denote.Exit.{yes}
 use denote.Triple.Clauses.{ensured, lasts}
-use Rattle.index.specs.ViewLaws.{headOf, view-made}
-use Rattle.index.specs.declared.view.View.{View}
-use Rattle.index.specs.declared.view.Head.{Head}
-use Rattle.index.proofs.view.View as T
-use Rattle.index.proofs.view.View.Laws as T′
-use Rattle.index.proofs.view.Head as N
-use Rattle.index.proofs.view.Head.Laws as N′
-use Rattle.index.proofs.view.head_of as head-of
-use Rattle.index.proofs.view.head_of.Symbol as head-of-def
-use Rattle.index.proofs.view.head_of.Symbol.{name as #head-of}
-use Rattle.index.proofs.view.head_of.Met as head-of-thm
-use Rattle.index.proofs.view.first as first
-use Rattle.index.proofs.view.first.Symbol as first-def
-use Rattle.index.proofs.view.first.Symbol.{name as #first}
-use Rattle.index.proofs.view.first.Met as first-thm
-use Rattle.index.proofs.view.view_index.Key.{name as #view-index}
-use Rattle.index.proofs.view.view_index as view-index
-use Rattle.index.proofs.view.view_index.Statement as stated
-use Rattle.index.proofs.view.view_index.Code as code
+use Rattle.view.specs.ViewLaws.{headOf, view-made}
+use Rattle.view.specs.declared.View.{View}
+use Rattle.view.specs.declared.Head.{Head}
+use Rattle.view.proofs.View as T
+use Rattle.view.proofs.View.Laws as T′
+use Rattle.view.proofs.Head as N
+use Rattle.view.proofs.Head.Laws as N′
+use Rattle.view.proofs.head_of as head-of
+use Rattle.view.proofs.head_of.Symbol as head-of-def
+use Rattle.view.proofs.head_of.Symbol.{name as #head-of}
+use Rattle.view.proofs.head_of.Met as head-of-thm
+use Rattle.view.proofs.first as first
+use Rattle.view.proofs.first.Symbol as first-def
+use Rattle.view.proofs.first.Symbol.{name as #first}
+use Rattle.view.proofs.first.Met as first-thm
+use Rattle.view.proofs.view_index.Key.{name as #view-index}
+use Rattle.view.proofs.view_index as view-index
+use Rattle.view.proofs.view_index.Statement as stated
+use Rattle.view.proofs.view_index.Code as code
 
 abbrev stayed : Stays (view-index.ended .signature .params) (view-index.ended .kept)
 stayed = (stay-none-slice (0 ∷ []) tt (plain (λ _. u8)) yes, tt)
@@ -189,5 +189,5 @@ view-index-spec 𝓤 H 𝓜 𝓖 𝓡 =
     entered 𝓤 H (tripleOf 𝓤 H (𝓖 .A) view-index.signature (view-index.spec 𝓤 H (𝓖 .A) (𝓜 .mem) (𝓡 .run)))
     (tables 𝓤 H 𝓜 𝓡 code.env .C) (tables 𝓤 H 𝓜 𝓡 code.env .Λ) #view-index code.function (code.unfolded 𝓤 H 𝓜 𝓡)
     (view-index-meets 𝓤 H (𝓖 .A) (givenOf 𝓤 H 𝓜 𝓖) (𝓜 .mem) (𝓡 .run) (tablesOf 𝓤 H 𝓜 (tables 𝓤 H 𝓜 𝓡 code.env))
-    (cited 𝓤 H (HeadOf 𝓤 H (𝓖 .A) (𝓜 .mem) (𝓡 .run)) 𝓜 𝓡 code.env #head-of head-of-def.routine code.calls-index·view·head-of (head-of-thm.met 𝓤 H 𝓜 𝓖 𝓡))
-    (cited 𝓤 H (First 𝓤 H (𝓖 .A) (𝓜 .mem) (𝓡 .run)) 𝓜 𝓡 code.env #first first-def.routine code.calls-index·view·first (first-thm.met 𝓤 H 𝓜 𝓖 𝓡)))
+    (cited 𝓤 H (HeadOf 𝓤 H (𝓖 .A) (𝓜 .mem) (𝓡 .run)) 𝓜 𝓡 code.env #head-of head-of-def.routine code.calls-view·head-of (head-of-thm.met 𝓤 H 𝓜 𝓖 𝓡))
+    (cited 𝓤 H (First 𝓤 H (𝓖 .A) (𝓜 .mem) (𝓡 .run)) 𝓜 𝓡 code.env #first first-def.routine code.calls-view·first (first-thm.met 𝓤 H 𝓜 𝓖 𝓡)))

@@ -6,12 +6,12 @@ use native.Mathlib.Omega.{arith}
 use lib.ListN.{length, getD, take, List·getD-eq-default}
 use lib.Seq.{length-take-le, getD-take}
 use Rattle.number.specs.Answer.{Answer, accepted, refused}
-use Rattle.index.specs.declared.view.Head.{Head}
+use Rattle.view.specs.declared.Head.{Head}
 use Rattle.index.specs.Index.{Extent, extent, place, placeIn, partBy, partAt}
 use Rattle.index.specs.IndexLaws.{has, entries-full, part-none}
 use Rattle.index.specs.OffsetLaws.{start-is}
 use Rattle.index.specs.SeenLaws.{seen-past, part-seen}
-use Rattle.index.specs.View.{viewBy, viewOf, viewPart}
+use Rattle.view.specs.View.{viewBy, viewOf, viewPart}
 
 -- ---- what a view is made of
 

@@ -1,4 +1,4 @@
--- `index::view::head_of` meets its contract. Assumes nothing.
+-- `view::head_of` meets its contract. Assumes nothing.
 use mathlib.Core.List.{List, [], _∷_}
 use mathlib.Core.Path.{_≡_, sym, ap, _∙_}
 use Prim.Native.Nat.{ℕ}
@@ -6,14 +6,14 @@ use native.Mathlib.Omega.{arith}
 use types.Run.{OneOf, miss}
 use denote.Enum.Declared.{tagOf}
 use borrow.Author.Needs.{needs}
 use Rattle.index.specs.Index.{extent, indexRead}
 use Rattle.index.specs.IndexLaws.{has, taken-le}
-use Rattle.index.specs.ViewLaws.{headOf, head-read, head-refused, own-size, own-unsized}
+use Rattle.view.specs.ViewLaws.{headOf, head-read, head-refused, own-size, own-unsized}
 use Rattle.index.specs.declared.read.IndexRead.the-variants.{Read, Lacking, BadSize}
 use Rattle.index.specs.declared.read.IndexRead.{IndexRead}
 use Rattle.index.proofs.read.IndexRead as read-type
-use Rattle.index.proofs.view.head_of.Statement.{statement}
-use Rattle.index.proofs.view.head_of.Tie as tie
+use Rattle.view.proofs.head_of.Statement.{statement}
+use Rattle.view.proofs.head_of.Tie as tie
 
 -- any other answer, by its tag
 other : (s : List ℕ) (r : IndexRead) → OneOf (1 ∷ 2 ∷ []) (tagOf read-type.the-type r) → indexRead r ≡ extent 2 s → record { taken = 0; count = 0; size = 0 } ≡ headOf 2 s

@@ -1,4 +1,4 @@
--- `index::view::view_part` meets its contract: a walk of its MIR, by hand. The struct is taken apart, and `part_in` is called on what it holds. All that the proof knows of `part_in` is that it meets its contract.
+-- `view::view_part` meets its contract: a walk of its MIR, by hand. The struct is taken apart, and `part_in` is called on what it holds. All that the proof knows of `part_in` is that it meets its contract.
 -- The struct is Copy: what it owns is had twice, one copy is kept whole for the exit, and of the other what bytes owns goes to the callee, beside the lifetime's token, which comes back.
 -- Assumes nothing.
 use mathlib.Core.Path.{_≡_, refl}
@@ -42,19 +42,19 @@ use denote.Triple.Table.{entered, cited}
 use denote.Triple.Walked.{says, Stays, stay-none, walkOf, goes-none, Walks, ends-at, walked, walk-meets}
 use denote.Exit.{yes}
 use denote.Triple.Clauses.{ensured, lasts}
 use Rattle.index.specs.Index.{Part}
-use Rattle.index.specs.View.{seen, viewPart}
-use Rattle.index.specs.declared.view.View.{View}
-use Rattle.index.proofs.view.View as T
-use Rattle.index.proofs.view.View.Laws as T′
-use Rattle.index.proofs.entry.part_in as part-in
-use Rattle.index.proofs.entry.part_in.Symbol as part-in-def
-use Rattle.index.proofs.entry.part_in.Symbol.{name as #part-in}
-use Rattle.index.proofs.entry.part_in.Met as part-in-thm
-use Rattle.index.proofs.view.view_part.Key.{name as #view-part}
-use Rattle.index.proofs.view.view_part as view-part
-use Rattle.index.proofs.view.view_part.Statement as stated
-use Rattle.index.proofs.view.view_part.Code as code
+use Rattle.view.specs.View.{seen, viewPart}
+use Rattle.view.specs.declared.View.{View}
+use Rattle.view.proofs.View as T
+use Rattle.view.proofs.View.Laws as T′
+use Rattle.index.proofs.part_in as part-in
+use Rattle.index.proofs.part_in.Symbol as part-in-def
+use Rattle.index.proofs.part_in.Symbol.{name as #part-in}
+use Rattle.index.proofs.part_in.Met as part-in-thm
+use Rattle.view.proofs.view_part.Key.{name as #view-part}
+use Rattle.view.proofs.view_part as view-part
+use Rattle.view.proofs.view_part.Statement as stated
+use Rattle.view.proofs.view_part.Code as code
 
 -- the struct's type, over the signature's lifetimes
 abbrev B : Lfts 1 → RattleType
@@ -173,4 +173,4 @@ view-part-spec 𝓤 H 𝓜 𝓖 𝓡 =
     entered 𝓤 H (tripleOf 𝓤 H (𝓖 .A) view-part.signature (view-part.spec 𝓤 H (𝓖 .A) (𝓜 .mem) (𝓡 .run)))
     (tables 𝓤 H 𝓜 𝓡 code.env .C) (tables 𝓤 H 𝓜 𝓡 code.env .Λ) #view-part code.function (code.unfolded 𝓤 H 𝓜 𝓡)
     (view-part-meets 𝓤 H (𝓖 .A) (givenOf 𝓤 H 𝓜 𝓖) (𝓜 .mem) (𝓡 .run) (tablesOf 𝓤 H 𝓜 (tables 𝓤 H 𝓜 𝓡 code.env))
-    (cited 𝓤 H (PartIn 𝓤 H (𝓖 .A) (𝓜 .mem) (𝓡 .run)) 𝓜 𝓡 code.env #part-in part-in-def.routine code.calls-index·entry·part-in (part-in-thm.met 𝓤 H 𝓜 𝓖 𝓡)))
+    (cited 𝓤 H (PartIn 𝓤 H (𝓖 .A) (𝓜 .mem) (𝓡 .run)) 𝓜 𝓡 code.env #part-in part-in-def.routine code.calls-index·part-in (part-in-thm.met 𝓤 H 𝓜 𝓖 𝓡)))

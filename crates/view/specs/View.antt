@@ -5,8 +5,8 @@ use mathlib.Core.List.{List, []}
 use lib.ListN.{getD, take}
 use denote.Ref.{ptr, now}
 use Rattle.number.specs.Answer.{Answer, accepted, refused}
-use Rattle.index.specs.declared.view.View.{View}
+use Rattle.view.specs.declared.View.{View}
 use Rattle.index.specs.Index.{Extent, Part, extent, partSeen}
 
 -- what a view holds: where its bytes start, the bytes, the count and the offset size
 pub record Seen : Type 0 where

@@ -1,4 +1,4 @@
--- `index::view::part_by_view` meets its contract: a walk of its MIR, by hand. The view that one call returns is held in a local and passed to the next. All that the proof knows of `view_index` and of `view_part` is that each meets its contract; the law `view-is-reader` says that the two together answer as the plain reader does.
+-- `view::part_by_view` meets its contract: a walk of its MIR, by hand. The view that one call returns is held in a local and passed to the next. All that the proof knows of `view_index` and of `view_part` is that each meets its contract; the law `view-is-reader` says that the two together answer as the plain reader does.
 -- In a local of a body MIR erases the lifetime of the struct's type, so the value is shown to have the type at `erased`: what the struct owns does not say the lifetime's name.
 -- Assumes nothing.
 use mathlib.Core.Path.{_≡_, refl, ap, _∙_}
@@ -37,24 +37,24 @@ use denote.Triple.Table.{entered, cited}
 use denote.Triple.Walked.{says, Stays, stay-none, stay-none-slice, walkOf, goes-none, goes-none-slice, Walks, ends-at, walked, walk-meets}
 use denote.Exit.{yes}
 use denote.Triple.Clauses.{ensured, lasts}
 use Rattle.index.specs.Index.{Part, partAt}
-use Rattle.index.specs.View.{Seen, seen, viewOf, viewPart}
-use Rattle.index.specs.ViewLaws.{view-is-reader}
-use Rattle.index.specs.declared.view.View.{View}
-use Rattle.index.proofs.view.View as T
-use Rattle.index.proofs.view.View.Laws as T′
-use Rattle.index.proofs.view.view_index as view-index
-use Rattle.index.proofs.view.view_index.Symbol as view-index-def
-use Rattle.index.proofs.view.view_index.Symbol.{name as #view-index}
-use Rattle.index.proofs.view.view_index.Met as view-index-thm
-use Rattle.index.proofs.view.view_part as view-part
-use Rattle.index.proofs.view.view_part.Symbol as view-part-def
-use Rattle.index.proofs.view.view_part.Symbol.{name as #view-part}
-use Rattle.index.proofs.view.view_part.Met as view-part-thm
-use Rattle.index.proofs.view.part_by_view.Key.{name as #part-by-view}
-use Rattle.index.proofs.view.part_by_view as part-by-view
-use Rattle.index.proofs.view.part_by_view.Statement as stated
-use Rattle.index.proofs.view.part_by_view.Code as code
+use Rattle.view.specs.View.{Seen, seen, viewOf, viewPart}
+use Rattle.view.specs.ViewLaws.{view-is-reader}
+use Rattle.view.specs.declared.View.{View}
+use Rattle.view.proofs.View as T
+use Rattle.view.proofs.View.Laws as T′
+use Rattle.view.proofs.view_index as view-index
+use Rattle.view.proofs.view_index.Symbol as view-index-def
+use Rattle.view.proofs.view_index.Symbol.{name as #view-index}
+use Rattle.view.proofs.view_index.Met as view-index-thm
+use Rattle.view.proofs.view_part as view-part
+use Rattle.view.proofs.view_part.Symbol as view-part-def
+use Rattle.view.proofs.view_part.Symbol.{name as #view-part}
+use Rattle.view.proofs.view_part.Met as view-part-thm
+use Rattle.view.proofs.part_by_view.Key.{name as #part-by-view}
+use Rattle.view.proofs.part_by_view as part-by-view
+use Rattle.view.proofs.part_by_view.Statement as stated
+use Rattle.view.proofs.part_by_view.Code as code
 
 -- the struct's type, over the signature's lifetimes
 abbrev B : Lfts 1 → RattleType
@@ -175,5 +175,5 @@ part-by-view-spec 𝓤 H 𝓜 𝓖 𝓡 =
     entered 𝓤 H (tripleOf 𝓤 H (𝓖 .A) part-by-view.signature (part-by-view.spec 𝓤 H (𝓖 .A) (𝓜 .mem) (𝓡 .run)))
     (tables 𝓤 H 𝓜 𝓡 code.env .C) (tables 𝓤 H 𝓜 𝓡 code.env .Λ) #part-by-view code.function (code.unfolded 𝓤 H 𝓜 𝓡)
     (part-by-view-meets 𝓤 H (𝓖 .A) (givenOf 𝓤 H 𝓜 𝓖) (𝓜 .mem) (𝓡 .run) (tablesOf 𝓤 H 𝓜 (tables 𝓤 H 𝓜 𝓡 code.env))
-    (cited 𝓤 H (ViewIndex 𝓤 H (𝓖 .A) (𝓜 .mem) (𝓡 .run)) 𝓜 𝓡 code.env #view-index view-index-def.routine code.calls-index·view·view-index (view-index-thm.met 𝓤 H 𝓜 𝓖 𝓡))
-    (cited 𝓤 H (ViewPart 𝓤 H (𝓖 .A) (𝓜 .mem) (𝓡 .run)) 𝓜 𝓡 code.env #view-part view-part-def.routine code.calls-index·view·view-part (view-part-thm.met 𝓤 H 𝓜 𝓖 𝓡)))
+    (cited 𝓤 H (ViewIndex 𝓤 H (𝓖 .A) (𝓜 .mem) (𝓡 .run)) 𝓜 𝓡 code.env #view-index view-index-def.routine code.calls-view·view-index (view-index-thm.met 𝓤 H 𝓜 𝓖 𝓡))
+    (cited 𝓤 H (ViewPart 𝓤 H (𝓖 .A) (𝓜 .mem) (𝓡 .run)) 𝓜 𝓡 code.env #view-part view-part-def.routine code.calls-view·view-part (view-part-thm.met 𝓤 H 𝓜 𝓖 𝓡)))

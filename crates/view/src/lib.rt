@@ -1,14 +1,14 @@
 // A view of one INDEX: it keeps the INDEX's bytes and what each look-up would else find anew. A
 // struct that holds a slice is walked by hand, so the work is in functions with plain parameters.
-use crate::entry::part_in;
-use crate::read::IndexRead;
-use crate::read::read_index;
+use index::IndexRead;
+use index::part_in;
+use index::read_index;
 ghost use mathlib.Core.Path.{_≡_};
 ghost use lib.ListN.{take};
 ghost use denote.Ref.{ptr};
 ghost use Rattle.index.specs.Index.{partAt};
-ghost use Rattle.index.specs.View.{seen, viewOf, viewPart};
-ghost use Rattle.index.specs.ViewLaws.{headOf};
+ghost use Rattle.view.specs.View.{seen, viewOf, viewPart};
+ghost use Rattle.view.specs.ViewLaws.{headOf};
 
 // An INDEX's own bytes, how many entries it has, and of how many bytes an offset is. Of bytes that
 // are no INDEX there is nothing to see.

@@ -15,13 +15,13 @@ use ghost.Atoms.{Atoms}
 use prog.Memory.{Memory}
 use prog.Routine.{Routine}
 use prog.Wp.{Heap}
 use Rattle.index.specs.Index.{Part}
-use Rattle.index.specs.View.{seen, viewOf, viewPart}
-use Rattle.index.specs.declared.view.View.{View}
-use Rattle.index.proofs.view.view_index as view-index
-use Rattle.index.proofs.view.view_part as view-part
-use Rattle.index.proofs.view.part_by_view.Kinds as by-view-kinds
-use Rattle.index.proofs.view.part_by_view.Reads as by-view-reads
+use Rattle.view.specs.View.{seen, viewOf, viewPart}
+use Rattle.view.specs.declared.View.{View}
+use Rattle.view.proofs.view_index as view-index
+use Rattle.view.proofs.view_part as view-part
+use Rattle.view.proofs.part_by_view.Kinds as by-view-kinds
+use Rattle.view.proofs.part_by_view.Reads as by-view-reads
 
 -- a part: where it starts and its bytes, which is all of it that the machine has
 abbrev partOf : RefT (List ℕ) → Part

@@ -1,4 +1,4 @@
--- `index::view::first` meets its contract. Assumes nothing.
+-- `view::first` meets its contract. Assumes nothing.
 use mathlib.Core.Path.{_≡_, refl, sym, ap}
 use Prim.Native.Nat.{ℕ}
 use native.Mathlib.Nat.{sub-zero}
@@ -6,8 +6,8 @@ use native.Mathlib.Omega.{arith}
 use lib.ListN.{take}
 use lib.Seq.{take-all}
 use borrow.Author.Needs.{needs}
-use Rattle.index.proofs.view.first.Statement.{statement}
-use Rattle.index.proofs.view.first.Tie as tie
+use Rattle.view.proofs.first.Statement.{statement}
+use Rattle.view.proofs.first.Tie as tie
 
 -- a part from the very start
 start-of : (p : ℕ × ℕ) {o : ℕ} → o ≡ p .1 → (p .0, o) ≡ p
