@@ -1,5 +1,4 @@
-// The operations over the crate index, each under the arguments that it takes, and the lines of that
-// crate's answers.
+// The operations over INDEXes, each under the arguments that it takes, and the lines of the answers.
 use crate::arguments::bytes_at;
 use crate::arguments::first;
 use crate::arguments::shaped;
@@ -10,7 +9,7 @@ use crate::room::fill;
 use index::EntryRead;
 use index::Formed;
 use index::IndexRead;
-use index::IndexWritten;
+use writing::IndexWritten;
 
 // 5: bytes.
 pub(crate) fn read_index(args: &[u8]) -> Line {
@@ -52,7 +51,7 @@ pub(crate) fn write_index(args: &[u8], lengths: &mut [u32], room: &mut [u8]) -> 
     read_words(&args[4..], given);
     let lent = &mut room[0..size];
     fill(lent);
-    let answer = index::write_index(given, bytes_at(args, joined), lent);
+    let answer = writing::write_index(given, bytes_at(args, joined), lent);
     index_written(answer, lent)
 }
 

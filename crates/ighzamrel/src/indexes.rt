@@ -1,13 +1,13 @@
 // An INDEX read, taken apart and written.
 use index::EntryRead;
 use index::IndexRead;
-use index::IndexWritten;
 use index::read_entry;
 use index::read_index;
-use index::write_index;
+use writing::IndexWritten;
+use writing::write_index;
 ghost use mathlib.Core.Path.{_≡_};
 ghost use Rattle.index.specs.Index.{extent, place as entryPlace};
-ghost use Rattle.index.specs.Writing.{writeIndex};
+ghost use Rattle.writing.specs.Writing.{writeIndex};
 ghost use Rattle.ighzamrel.specs.Told.{told, tell, tellLength};
 
 // The INDEX at the start of the bytes: 0, how many entries it has and how many bytes it takes; or 20

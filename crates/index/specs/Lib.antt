@@ -6,7 +6,3 @@ pub mod FormedLaws
 pub mod AfterLaws
 pub mod SeenLaws
 pub mod Examples
-pub mod Writing
-pub mod WritingLaws
-pub mod WritingRoundTrip
-pub mod WritingExamples

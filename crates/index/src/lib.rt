@@ -3,7 +3,6 @@ mod entry;
 mod list;
 mod offset;
 mod read;
-mod write;
 
 pub use crate::entry::EntryRead;
 pub use crate::entry::entry_in;
@@ -14,5 +13,3 @@ pub use crate::list::Formed;
 pub use crate::list::well_formed;
 pub use crate::read::IndexRead;
 pub use crate::read::read_index;
-pub use crate::write::IndexWritten;
-pub use crate::write::write_index;

@@ -1,0 +1,4 @@
+pub mod Writing
+pub mod WritingLaws
+pub mod RoundTrip
+pub mod Examples
