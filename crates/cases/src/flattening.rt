@@ -10,7 +10,7 @@ use crate::line::Line;
 use crate::room::fill;
 use reading::Flattened;
 use reading::Profile;
-use reading::Refusal;
+use reading::number_of;
 
 // 8: profile, budget, room, charstring, globals, locals.
 pub(crate) fn flatten(args: &[u8], room: &mut [u8]) -> Line {
@@ -54,28 +54,12 @@ fn flattened(answer: Flattened, room: &[u8]) -> Line {
             .shows(n, room),
         Flattened::BadGlobals => Line::of(1).keeps(room),
         Flattened::BadLocals => Line::of(2).keeps(room),
-        Flattened::Refused(refusal, tokens) => Line::of(number_of(refusal))
+        Flattened::Refused(refusal, tokens) => Line::of(number_of(refusal) as u64)
             .value(tokens as u64)
             .keeps(room),
         Flattened::Short(n, tokens) => Line::of(13)
             .value(n as u64)
             .value(tokens as u64)
             .keeps(room),
-    }
-}
-
-// Document 01's number.
-fn number_of(refusal: Refusal) -> u64 {
-    match refusal {
-        Refusal::BudgetSpent => 3,
-        Refusal::BytesLacking => 4,
-        Refusal::TooManyOperands => 5,
-        Refusal::UnknownOperator => 6,
-        Refusal::NoIndex => 7,
-        Refusal::IndexNotLast => 8,
-        Refusal::NoEntry => 9,
-        Refusal::TooDeep => 10,
-        Refusal::TooManyHints => 11,
-        Refusal::Composite => 12,
     }
 }

@@ -5,6 +5,7 @@ use libc::STDERR_FILENO;
 use libc::STDOUT_FILENO;
 use reading::Flattened;
 use reading::Refusal;
+use reading::number_of;
 
 // Tells a reply, over the room that it was lent; `size` is how many bytes came in.
 pub(crate) fn tell(reply: Reply, size: usize, room: &[u8]) {
@@ -81,45 +82,43 @@ fn tell_short(n: usize, tokens: u32) {
     say(b" bytes, more than the room of 1048576\n");
 }
 
+// The line of a refusal: its number, its tokens, and a sentence with the tokens in it.
 fn tell_refusal(refusal: Refusal, tokens: u32) {
+    count(number_of(refusal) as u64);
+    say(b" ");
+    count(tokens as u64);
+    say(b": ");
     match refusal {
-        Refusal::BudgetSpent => explain(3, b"the budget is spent after token ", tokens, b""),
-        Refusal::BytesLacking => explain(4, b"token ", tokens, b" lacks bytes"),
-        Refusal::TooManyOperands => explain(5, b"token ", tokens, b" is one operand too many"),
-        Refusal::UnknownOperator => explain(6, b"token ", tokens, b" is no operator that is taken"),
-        Refusal::NoIndex => explain(7, b"the call at token ", tokens, b" has no whole index"),
+        Refusal::BudgetSpent => explain(b"the budget is spent after token ", tokens, b""),
+        Refusal::BytesLacking => explain(b"token ", tokens, b" lacks bytes"),
+        Refusal::TooManyOperands => explain(b"token ", tokens, b" is one operand too many"),
+        Refusal::UnknownOperator => explain(b"token ", tokens, b" is no operator that is taken"),
+        Refusal::NoIndex => explain(b"the call at token ", tokens, b" has no whole index"),
         Refusal::IndexNotLast => tell_index(tokens),
-        Refusal::NoEntry => explain(9, b"the entry that token ", tokens, b" calls is not there"),
-        Refusal::TooDeep => explain(10, b"the call at token ", tokens, b" nests too deep"),
-        Refusal::TooManyHints => explain(11, b"token ", tokens, b" makes too many hints"),
-        Refusal::Composite => explain(
-            12,
-            b"token ",
-            tokens,
-            b" is an endchar that makes a composite",
-        ),
+        Refusal::NoEntry => explain(b"the entry that token ", tokens, b" calls is not there"),
+        Refusal::TooDeep => explain(b"the call at token ", tokens, b" nests too deep"),
+        Refusal::TooManyHints => explain(b"token ", tokens, b" makes too many hints"),
+        Refusal::Composite => tell_composite(tokens),
     }
+    say(b"\n");
 }
 
 fn tell_index(tokens: u32) {
     explain(
-        8,
         b"the index of the call at token ",
         tokens,
         b" does not stand last in the flat string",
     );
 }
 
-// The line of a refusal: its number, its tokens, and a sentence with the tokens in it.
-fn explain(number: u64, before: &[u8], tokens: u32, after: &[u8]) {
-    count(number);
-    say(b" ");
-    count(tokens as u64);
-    say(b": ");
+fn tell_composite(tokens: u32) {
+    explain(b"token ", tokens, b" is an endchar that makes a composite");
+}
+
+fn explain(before: &[u8], tokens: u32, after: &[u8]) {
     say(before);
     count(tokens as u64);
     say(after);
-    say(b"\n");
 }
 
 fn say(words: &[u8]) {

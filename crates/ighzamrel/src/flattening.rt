@@ -2,10 +2,10 @@
 use charstring::flatten;
 use reading::Flattened;
 use reading::Profile;
-use reading::Refusal;
+use reading::number_of;
 ghost use mathlib.Core.Path.{_≡_};
 ghost use Rattle.reading.specs.Rules.{rulesOf};
-ghost use Rattle.reading.specs.Answers.{numberOf, flattening};
+ghost use Rattle.reading.specs.Answers.{flattening};
 ghost use Rattle.ighzamrel.specs.Told.{profileOf, tellFlattening};
 
 // Flattens a charstring with its two subroutine lists into the start of out: 0, the flat string's
@@ -57,22 +57,4 @@ fn profile_of(profile: u32) -> Profile
         return Profile::Plain;
     }
     Profile::Strict
-}
-
-// Document 01's number of a run's refusal.
-fn number_of(why: Refusal) -> u32
-    ensures { λ r. ⌜ r ≡ numberOf why ⌝ }
-{
-    match why {
-        Refusal::BudgetSpent => 3,
-        Refusal::BytesLacking => 4,
-        Refusal::TooManyOperands => 5,
-        Refusal::UnknownOperator => 6,
-        Refusal::NoIndex => 7,
-        Refusal::IndexNotLast => 8,
-        Refusal::NoEntry => 9,
-        Refusal::TooDeep => 10,
-        Refusal::TooManyHints => 11,
-        Refusal::Composite => 12,
-    }
 }

@@ -1,5 +1,7 @@
 // The words of the call-following reading, as the code above uses them: what an operator is, what
 // a profile is, and what flattening answers. The reading itself is a definition, in specs/.
+ghost use mathlib.Core.Path.{_≡_};
+ghost use Rattle.reading.specs.Answers.{numberOf};
 
 // An operator: whether it stands behind the escape byte 12, and its byte.
 pub struct Operator {
@@ -47,6 +49,24 @@ pub enum Refusal {
     TooDeep,
     TooManyHints,
     Composite,
+}
+
+// Document 01's number of a run's refusal.
+pub fn number_of(why: Refusal) -> u32
+    ensures { λ r. ⌜ r ≡ numberOf why ⌝ }
+{
+    match why {
+        Refusal::BudgetSpent => 3,
+        Refusal::BytesLacking => 4,
+        Refusal::TooManyOperands => 5,
+        Refusal::UnknownOperator => 6,
+        Refusal::NoIndex => 7,
+        Refusal::IndexNotLast => 8,
+        Refusal::NoEntry => 9,
+        Refusal::TooDeep => 10,
+        Refusal::TooManyHints => 11,
+        Refusal::Composite => 12,
+    }
 }
 
 // What flattening answers.
