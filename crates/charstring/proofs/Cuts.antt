@@ -1,22 +1,31 @@
 -- The token at a place is the one that is cut from there. Assumes nothing.
-use mathlib.Core.Path.{_≡_, refl, sym, ap, _∙_}
+use mathlib.Core.Path.{_≡_, refl, sym, ap, subst, _∙_}
 use mathlib.Core.Bool.{Bool, true, false, cond}
-use mathlib.Core.List.{List, [], _∷_}
-use Prim.Native.Nat.{ℕ, suc, _+_, _-_, _<_, _≤_}
+use mathlib.Core.List.{List, [], _∷_, _++_, append-nil}
+use Prim.Native.Nat.{ℕ, zero, suc, _+_, _-_, _<_, _≤_}
 use native.Mathlib.Nat.{add-zero}
 use native.Mathlib.Numerals.{add-one}
 use native.Mathlib.Omega.{arith}
-use lib.Dec.{eqb, lit<}
+use native.Mathlib.Decide.{decLt}
+use lib.Dec.{ltb, eqb, lit<, lit≤}
 use lib.ListN.{length, getD, take, drop, length-drop, drop-of-length-le}
 use lib.Seq.{drop-cons, drop-drop, take-all, getD-drop}
-use borrow.Author.Tests.{eq-eqb, ne-eqb}
+use borrow.Author.Tests.{eq-eqb, ne-eqb, lt-ltb, le-ltb}
 use Rattle.number.specs.Answer.{Answer, accepted, refused}
-use Rattle.number.specs.Number.{Number, charstringRows, readBy}
+use Rattle.number.specs.BigEndian.{beAt}
+use Rattle.number.specs.Number.{Row, row32, row247, row251, row, rowOf, operandBy, Number, numberBy, charstringRows, readBy}
+use Rattle.number.specs.NumberLaws.{at-near, at-above, at-below, at-low}
 use Rattle.number.specs.RoundTrip.{read-width, read-inside, Width, one, two, three, five}
 use Rattle.number.specs.Written.{spelling}
 use Rattle.number.specs.KeptLaws.{one-kept, two-kept}
 use Rattle.number.specs.declared.Operand.{Operand}
-use Rattle.charstring.specs.Words.{StandsAt}
+use Rattle.charstring.specs.Words.{operandIn, shortOf}
+use Rattle.charstring.specs.Run.{Spelt, clears as Clearing, Looked}
+use Rattle.charstring.specs.declared.look.Request.the-variants.{Plain, Short}
+use Rattle.charstring.proofs.Operators.{clears-alone, plain-is}
+use Rattle.reading.specs.Rules.{plainKind}
+use Rattle.reading.specs.declared.Operator.{Operator}
+use Rattle.reading.specs.declared.Kind.the-variants.{Clear}
 use Rattle.reading.specs.Tokens.{number, operator, token, lacking, escapedAt, operatorAt, cutBy, cut}
 
 -- ---- an operator
@@ -84,63 +93,106 @@ module _ (cs : List ℕ) (i : ℕ) (h : i < length cs) where
   unfolding cutBy
   operator-there e = seen (refused 6 []) e
 
--- ---- a number that was cut is one that was read
+-- ---- a short number
 
-pub record ReadAs (s : List ℕ) (o : Operand) (rest : List ℕ) : Type 0 where
-  pub read : Number
-  pub is : accepted read ≡ readBy charstringRows s
-  pub operand-is : read .operand ≡ o
-  pub rest-is : drop (read .width) s ≡ rest
+-- the bytes of one
+abbrev pub wideOf : ℕ → ℕ
+wideOf b = cond (ltb b 247) 1 2
 
-module _ (o : Operand) (rest : List ℕ) where
-  no-escape : (s : List ℕ) → escapedAt s ≡ token (number o) rest → ⊥
-  unfolding escapedAt
-  no-escape [] e = let z : _≡_ {A = ℕ} 0 1 = cc in absurd (omega arith)
-  no-escape (b ∷ s) e = let z : _≡_ {A = ℕ} 0 1 = cc in absurd (omega arith)
+one-or-two : (b : ℕ) → (1 ≤ wideOf b) × (wideOf b ≤ 2)
+one-or-two b = go (ltb b 247)
+  where
+    go : (t : Bool) → (1 ≤ cond t 1 2) × (cond t 1 2 ≤ 2)
+    go true = (lit≤ tt, lit≤ tt)
+    go false = (lit≤ tt, lit≤ tt)
 
-  no-byte : (b : ℕ) (s : List ℕ) (x : Bool) → cond x (escapedAt s) (token (operator (record { escaped = false; byte = b })) s) ≡ token (number o) rest → ⊥
-  no-byte b s true e = no-escape s e
-  no-byte b s false e = let z : _≡_ {A = ℕ} 0 1 = cc in absurd (omega arith)
+module _ (b x : ℕ) where
+  by-row : (r : Row) → r .after ≤ 1 → rowOf b charstringRows ≡ row r → (rest : List ℕ)
+      → readBy charstringRows (b ∷ x ∷ rest) ≡ accepted (record { operand = operandBy r b (beAt (b ∷ x ∷ rest) 1 (r .after)); width = r .after + 1 })
+  unfolding readBy numberBy
+  by-row r m e rest =
+      rw (ne-eqb (length (b ∷ x ∷ rest)) 0 (λ z. omega arith), e, lt-ltb (r .after) (length (b ∷ x ∷ rest)) (omega arith))
 
-  no-operator : (s : List ℕ) (x : Bool) → cond x (operatorAt s) lacking ≡ token (number o) rest → ⊥
-  unfolding operatorAt
-  no-operator [] true e = let z : _≡_ {A = ℕ} 0 1 = cc in absurd (omega arith)
-  no-operator (b ∷ s) true e = no-byte b s (eqb b 12) e
-  no-operator s false e = let z : _≡_ {A = ℕ} 0 1 = cc in absurd (omega arith)
+  -- by its row, whatever stands behind the two bytes
+  of-row : (r : Row) → r .after ≤ 1 → rowOf b charstringRows ≡ row r → (v w : ℕ) → r .after + 1 ≡ w → ((rest : List ℕ) → beAt (b ∷ x ∷ rest) 1 (r .after) ≡ v)
+      → (rest : List ℕ) → readBy charstringRows (b ∷ x ∷ rest) ≡ accepted (record { operand = shortOf b x; width = w })
+  unfolding shortOf operandIn
+  of-row r m e v w q f rest =
+      let same : operandBy r b (beAt (b ∷ x ∷ rest) 1 (r .after)) ≡ shortOf b x = ap (operandBy r b) (f rest ∙ sym (f [])) ∙ ap operandIn (sym (by-row r m e [])) in
+      by-row r m e rest ∙ (λ i. accepted (record { operand = same i; width = q i }))
 
-  pub read-as : (s : List ℕ) → cut s ≡ token (number o) rest → ReadAs s o rest
+  module _ (low : 31 < b) (high : b < 255) where
+    pub short-read : (rest : List ℕ) → readBy charstringRows (b ∷ x ∷ rest) ≡ accepted (record { operand = shortOf b x; width = wideOf b })
+    unfolding beAt
+    short-read rest = go (decLt b 247) (decLt b 251)
+      where
+        go : Dec (b < 247) → Dec (b < 251) → readBy charstringRows (b ∷ x ∷ rest) ≡ accepted (record { operand = shortOf b x; width = wideOf b })
+        go (yes p) q = rw (lt-ltb b 247 p) (of-row row32 (lit≤ tt) (at-near false b (omega arith) p) 0 1 refl (λ l. refl) rest)
+        go (no p) (yes q) = rw (le-ltb b 247 (omega arith)) (of-row row247 (lit≤ tt) (at-above false b (omega arith) q) _ 2 refl (λ l. refl) rest)
+        go (no p) (no q) = rw (le-ltb b 247 (omega arith)) (of-row row251 (lit≤ tt) (at-below false b (omega arith) high) _ 2 refl (λ l. refl) rest)
+
+    -- its bytes are its shortest form
+    pub short-spelt : x < 256 → Spelt b x (wideOf b)
+    short-spelt s = go (decLt b 247)
+      where
+        bytes-of : (k : ℕ) → getD (b ∷ x ∷ []) k 0 < 256
+        bytes-of zero = omega arith
+        bytes-of (suc zero) = s
+        bytes-of (suc (suc k)) = lit< tt
+
+        go : Dec (b < 247) → Spelt b x (wideOf b)
+        go (yes p) =
+            let e : spelling charstringRows (shortOf b x) ≡ b ∷ [] = one-kept false (b ∷ x ∷ []) bytes-of _ (sym (short-read [])) (rw (lt-ltb b 247 p)) in
+            rw (lt-ltb b 247 p) (record { others = x ∷ []; bytes = ap (λ (l : List ℕ). l ++ x ∷ []) (sym e); long = ap length e })
+        go (no p) =
+            let e : spelling charstringRows (shortOf b x) ≡ b ∷ x ∷ [] = two-kept false (b ∷ x ∷ []) bytes-of _ (sym (short-read [])) (rw (le-ltb b 247 (omega arith))) in
+            rw (le-ltb b 247 (omega arith)) (record { others = []; bytes = sym e ∙ sym (append-nil (spelling charstringRows (shortOf b x))); long = ap length e })
+
+module _ (cs : List ℕ) (i : ℕ) (h : i + 1 < length cs) (low : 31 < getD cs i 0) (high : getD cs i 0 < 255) where
+  abbrev short-here : Operand
+  short-here = shortOf (getD cs i 0) (getD cs (i + 1) 0)
+
+  two-there : drop i cs ≡ getD cs i 0 ∷ getD cs (i + 1) 0 ∷ drop (suc (suc i)) cs
+  two-there =
+      let next : i + 1 ≡ suc i = omega arith in
+      drop-cons cs i 0 (omega arith) ∙ ap (λ (l : List ℕ). getD cs i 0 ∷ l) (drop-cons cs (suc i) 0 (omega arith) ∙ rw next refl)
+
+  pub short-at : cut (drop i cs) ≡ token (number short-here) (drop (i + wideOf (getD cs i 0)) cs)
   unfolding cut cutBy
-  read-as s q = go (readBy charstringRows s) refl q
-    where
-      go : (a : Answer Number) → readBy charstringRows s ≡ a → cutBy s a ≡ token (number o) rest → ReadAs s o rest
-      go (accepted x) e q =
-          let p : x .operand ≡ o = cc in
-          let r : drop (x .width) s ≡ rest = cc in
-          record { read = x; is = sym e; operand-is = p; rest-is = r }
-      go (refused n v) e q = absurd (no-operator s (eqb n 6) q)
+  short-at =
+      ap (cutBy (drop i cs)) (ap (readBy charstringRows) two-there ∙ short-read (getD cs i 0) (getD cs (i + 1) 0) low high (drop (suc (suc i)) cs))
+      ∙ ap (token (number short-here)) (drop-drop (wideOf (getD cs i 0)) i cs)
 
--- one byte, or two, are stored as they stand
-module _ (cs : List ℕ) (i j : ℕ) (o : Operand) (h : StandsAt cs i j o) where
-  as-it-stands : ReadAs (drop i cs) o (drop j cs)
-  as-it-stands = read-as o (drop j cs) (drop i cs) (h .cut-is)
+  -- what it asks for
+  pub short-looked : (budget operands limit tokens count hints mask next : ℕ) → tokens < budget → count < operands → getD cs (i + 1) 0 < 256
+      → next ≡ i + wideOf (getD cs i 0) → Looked cs i budget operands limit tokens count hints mask (Short next (getD cs i 0) (getD cs (i + 1) 0))
+  short-looked budget operands limit tokens count hints mask next t c x e =
+      let w = one-or-two (getD cs i 0) in
+      let wide : wideOf (getD cs i 0) ≡ next - i = omega arith in (
+        (record { ahead = omega arith; inside = omega arith; within = t }, short-at ∙ ap (λ (j : ℕ). token (number short-here) (drop j cs)) (sym e), c),
+        subst (Spelt (getD cs i 0) (getD cs (i + 1) 0)) wide (short-spelt (getD cs i 0) (getD cs (i + 1) 0) low high x),
+      )
 
-  wide-as : as-it-stands .read .width ≡ j - i
-  wide-as =
-      let r = as-it-stands in
-      let inside = read-inside false (drop i cs) (r .read) (r .is) in
-      let a = h .ahead in
-      let b = h .inside in
-      omega (arith, ap length (r .rest-is), length-drop (r .read .width) (drop i cs), length-drop i cs, length-drop j cs)
+-- ---- an operator of one byte that clears the stack
 
-  behind-bytes : (k : ℕ) → getD (drop i cs) k 0 < 256
-  behind-bytes k = rw (getD-drop i cs k 0) (h .bytes (i + k))
+module _ (cs : List ℕ) (i : ℕ) (h : i < length cs) (c : Clear ≡ plainKind (getD cs i 0)) (small : getD cs i 0 < 32) where
+  abbrev operator-here : Operator
+  operator-here = record { escaped = false; byte = getD cs i 0 }
 
-  pub byte-stands : j - i ≡ 1 → getD cs i 0 ∷ [] ≡ spelling charstringRows o
-  byte-stands w =
-      let r = as-it-stands in
-      sym (ap (spelling charstringRows) (sym (r .operand-is)) ∙ one-kept false (drop i cs) behind-bytes (r .read) (r .is) (wide-as ∙ w) ∙ rw (getD-drop i cs 0 0, add-zero i))
+  no-number : readBy charstringRows (drop i cs) ≡ refused 6 []
+  unfolding readBy numberBy
+  no-number =
+      let first : getD (drop i cs) 0 0 ≡ getD cs i 0 = getD-drop i cs 0 0 ∙ rw (add-zero i) refl in
+      let none = at-low false (getD cs i 0) (clears-alone (getD cs i 0) c .1) (λ e. omega arith) small in
+      rw (ne-eqb (length (drop i cs)) 0 (λ e. omega (arith, length-drop i cs)), first, none) refl
 
-  pub two-stand : j - i ≡ 2 → getD cs i 0 ∷ getD cs (i + 1) 0 ∷ [] ≡ spelling charstringRows o
-  two-stand w =
-      let r = as-it-stands in
-      sym (ap (spelling charstringRows) (sym (r .operand-is)) ∙ two-kept false (drop i cs) behind-bytes (r .read) (r .is) (wide-as ∙ w) ∙ rw (getD-drop i cs 0 0, getD-drop i cs 1 0, add-zero i))
+  clear-at : cut (drop i cs) ≡ token (operator operator-here) (drop (i + 1) cs)
+  clear-at =
+      sym (plain-at cs i h (clears-alone (getD cs i 0) c .0) ∙ operator-there cs i h (sym no-number ∙ ap (readBy charstringRows) (sym (all-behind cs i h))))
+
+  pub clear-looked : (budget operands limit tokens count hints mask : ℕ) → tokens < budget
+      → Looked cs i budget operands limit tokens count hints mask (Plain (i + 1) hints operator-here)
+  clear-looked budget operands limit tokens count hints mask t = (
+    record { begun = record { ahead = omega arith; inside = omega arith; within = t }; cut-is = clear-at },
+    Clearing (sym (c ∙ plain-is operator-here refl)) refl,
+  )

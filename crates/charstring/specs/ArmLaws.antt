@@ -1,7 +1,7 @@
 -- Each arm of the runner's loop, over all states of the reading that the code's state may stand for. Assumes nothing.
 use mathlib.Core.Path.{_≡_, refl, sym, ap, subst, _∙_}
 use mathlib.Core.Bool.{Bool, true, false, cond}
-use mathlib.Core.List.{List, [], _∷_}
+use mathlib.Core.List.{List, [], _∷_, _++_, append-nil}
 use Prim.Native.Nat.{ℕ, _+_, _-_, _*_, _≤_, _<_}
 use native.Mathlib.Nat.{le-refl, mul-le-mul}
 use native.Mathlib.Omega.{arith}
@@ -23,7 +23,7 @@ use Rattle.reading.specs.declared.Operator.{Operator}
 use Rattle.reading.specs.declared.Refusal.{Refusal}
 use Rattle.reading.specs.declared.Which.{Which}
 use Rattle.reading.specs.declared.Which.the-variants.{Local, Global}
-use Rattle.charstring.specs.Words.{unpackOf, puts, aimed, targetOf, Inside}
+use Rattle.charstring.specs.Words.{shortOf, unpackOf, puts, aimed, targetOf, Inside}
 use Rattle.charstring.specs.Run.{Ruled, Looked, Repr, Done, Sound, RunsTo, chosen, chosenCount, Setting}
 use Rattle.charstring.specs.TurnLaws.{Here, small, tail-few, by-push, by-plain, by-mask, by-out, by-bad, by-return, by-end, by-no, inner-repr, found, index-fits, came-back, passed-on}
 use Rattle.charstring.specs.declared.charstring.Limits.{Limits}
@@ -32,7 +32,7 @@ use Rattle.charstring.specs.declared.charstring.Ran.{Ran}
 use Rattle.charstring.specs.declared.charstring.Ending.{Ending}
 use Rattle.charstring.specs.declared.charstring.Ending.the-variants.{Back, Ended, Refused}
 use Rattle.charstring.specs.declared.look.Request.{Request}
-use Rattle.charstring.specs.declared.look.Request.the-variants.{Push, Plain as Shows, Mask, Call, Return, End, Out, Bad}
+use Rattle.charstring.specs.declared.look.Request.the-variants.{Push, Plain as Shows, Mask, Call, Return, End, Out, Bad, Short}
 use Rattle.charstring.specs.declared.subroutines.Target.{Target}
 use Rattle.charstring.specs.declared.subroutines.Target.the-variants.{Enter, No}
 
@@ -104,13 +104,26 @@ module _ (cs globals locals : List ℕ) (by : Limits) (levels : ℕ) (s₀ : Sta
     abbrev Asks : Request → Type 0
     Asks x = Looked cs i (by .budget) (length stack) (by .hints) (s .tokens) (s .count) (s .hints) (s .mask) x
 
-    pub arm-push : (o : Operand) (j w e : ℕ) (out₁ : List ℕ) → Asks (Push j o) → unpackOf w ≡ o → out₁ ≡ puts (by .stored) (s .length) (spelling charstringRows o) out
-        → e ≡ s .length + length (spelling charstringRows o)
-        → Stands (set stack (s .count) w) out₁ (record { count = s .count + 1; tail = s .tail + 1; hints = s .hints; mask = s .mask; tokens = s .tokens + 1; length = e }) j
-    arm-push o j w e out₁ a u d q = λ rules r t₀ p.
+    abbrev pushedState : ℕ → State
+    pushedState e = record { count = s .count + 1; tail = s .tail + 1; hints = s .hints; mask = s .mask; tokens = s .tokens + 1; length = e }
+
+    pushes : (o : Operand) (j w e : ℕ) (others out₁ : List ℕ) → Asks (Push j o) → unpackOf w ≡ o
+        → out₁ ≡ puts (by .stored) (s .length) (spelling charstringRows o ++ others) out → e ≡ s .length + length (spelling charstringRows o)
+        → Stands (set stack (s .count) w) out₁ (pushedState e) j
+    pushes o j w e others out₁ a u d q = λ rules r t₀ p.
         by-push rules lists plain cs (h .bytes) (by .budget) levels (by .stored) (by .hints) (by .exact) t₀ out₀ stack out s i (ruled-now rules r) fits (h .stands rules r t₀ p)
-        o j w out₁ _ (a .0) (a .1) (a .2) u d
-        (ap (λ (n : ℕ). record { count = s .count + 1; tail = s .tail + 1; hints = s .hints; mask = s .mask; tokens = s .tokens + 1; length = n }) q)
+        o j w others out₁ _ (a .0) (a .1) (a .2) u d (ap pushedState q)
+
+    pub arm-push : (o : Operand) (j w e : ℕ) (out₁ : List ℕ) → Asks (Push j o) → unpackOf w ≡ o → out₁ ≡ puts (by .stored) (s .length) (spelling charstringRows o) out
+        → e ≡ s .length + length (spelling charstringRows o) → Stands (set stack (s .count) w) out₁ (pushedState e) j
+    arm-push o j w e out₁ a u d q =
+        pushes o j w e [] out₁ a u (d ∙ ap (λ (bs : List ℕ). puts (by .stored) (s .length) bs out) (sym (append-nil (spelling charstringRows o)))) q
+
+    pub arm-short : (j b x w e : ℕ) (out₁ : List ℕ) → Asks (Short j b x) → unpackOf w ≡ shortOf b x → out₁ ≡ puts (by .stored) (s .length) (b ∷ x ∷ []) out
+        → e ≡ s .length + (j - i) → Stands (set stack (s .count) w) out₁ (pushedState e) j
+    arm-short j b x w e out₁ a u d q =
+        pushes (shortOf b x) j w e (a .1 .others) out₁ (a .0) u (d ∙ ap (λ (bs : List ℕ). puts (by .stored) (s .length) bs out) (a .1 .bytes))
+        (q ∙ ap (λ (n : ℕ). s .length + n) (sym (a .1 .long)))
 
     pub arm-plain : (o : Operator) (j x e : ℕ) (out₁ : List ℕ) → Asks (Shows j x o) → out₁ ≡ puts (by .stored) (s .length) (operatorBytes o) out
         → e ≡ s .length + length (operatorBytes o)

@@ -18,7 +18,7 @@ use Rattle.reading.specs.declared.Kind.{Kind}
 use Rattle.reading.specs.declared.Kind.the-variants.{Stem, Mask, Call, End, Unknown}
 use Rattle.charstring.specs.Run.{Ruled, Counts, AtOperator, Hinted, Fixed, Declines, Asked, Refuses, Looked}
 use Rattle.charstring.specs.declared.look.Request.{Request}
-use Rattle.charstring.specs.declared.look.Request.the-variants.{Push, Plain, Mask as Masking, Call as Calling, Return as Returning, End as Finish, Out, Bad}
+use Rattle.charstring.specs.declared.look.Request.the-variants.{Push, Plain, Mask as Masking, Call as Calling, Return as Returning, End as Finish, Out, Bad, Short}
 
 -- ---- an operator that is refused
 
@@ -155,6 +155,7 @@ module _ (cs : List ℕ) (i budget operands limit tokens count hints mask : ℕ)
       asked Returning a = (p, j, here, a)
       asked (Finish q) a = subst (λ (y : Operator). Looks (Finish y)) (sym (a .0)) (j, here, a .1, a .2)
       asked Out a = absurd a
+      asked (Short k b x) a = absurd a
       asked (Bad k) a =
           record {
             some = l;

@@ -1,10 +1,13 @@
 -- How a state of the code stands for a state of the reading, and what `look` and `run` ensure.
 use mathlib.Core.Path.{_≡_}
 use mathlib.Core.Bool.{Bool}
-use mathlib.Core.List.{List, [], _∷_}
+use mathlib.Core.List.{List, [], _∷_, _++_}
 use Prim.Native.Nat.{ℕ, suc, _+_, _-_, _/_, _≤_, _<_}
 use lib.ListN.{length, drop}
 use Rattle.reading.specs.Rules.{Rules, type2}
+use Rattle.number.specs.Number.{charstringRows}
+use Rattle.number.specs.Written.{spelling}
+use Rattle.number.specs.declared.Operand.{Operand}
 use Rattle.index.specs.Index.{extent}
 use Rattle.reading.specs.Lists.{Lists, countIn, listsOf}
 use Rattle.reading.specs.Tokens.{number, operator, token, cut}
@@ -17,7 +20,7 @@ use Rattle.reading.specs.declared.Operator.{Operator}
 use Rattle.reading.specs.declared.Which.{Which}
 use Rattle.reading.specs.declared.Which.the-variants.{Local, Global}
 use Rattle.reading.specs.declared.Kind.the-variants.{Stem, Clear, Mask, Call, Return, End}
-use Rattle.charstring.specs.Words.{stackOf}
+use Rattle.charstring.specs.Words.{shortOf, stackOf}
 use Rattle.charstring.specs.WordsLaws.{Written, Beyond}
 use Rattle.charstring.specs.declared.charstring.Limits.{Limits}
 use Rattle.charstring.specs.declared.charstring.State.{State}
@@ -25,7 +28,7 @@ use Rattle.charstring.specs.declared.charstring.Ending.{Ending}
 use Rattle.charstring.specs.declared.charstring.Ending.the-variants.{Back, Ended, Refused}
 use Rattle.charstring.specs.declared.charstring.Ran.{Ran}
 use Rattle.charstring.specs.declared.look.Request.{Request}
-use Rattle.charstring.specs.declared.look.Request.the-variants.{Push, Plain, Mask as Masking, Call as Calling, Return as Returning, End as Finish, Out, Bad}
+use Rattle.charstring.specs.declared.look.Request.the-variants.{Push, Plain, Mask as Masking, Call as Calling, Return as Returning, End as Finish, Out, Bad, Short}
 
 -- ---- the rules that a run goes by
 
@@ -80,6 +83,13 @@ module _ (n j : ℕ) (p : Operator) (limit count hints mask : ℕ) where
   Asked (Finish q) = (q ≡ p) × (type2 p ≡ End) × (count < 4)
   Asked Out = ⊥
   Asked (Bad k) = Declines (numberOf k)
+  Asked (Short k b x) = ⊥
+
+-- of two bytes the first n spell the number that they start with
+pub record Spelt (b x n : ℕ) : Type 0 where
+  pub others : List ℕ
+  pub bytes : b ∷ x ∷ [] ≡ spelling charstringRows (shortOf b x) ++ others
+  pub long : length (spelling charstringRows (shortOf b x)) ≡ n
 
 module _ (cs : List ℕ) (i budget operands limit tokens count hints mask : ℕ) where
   -- whatever the lists and the place, the step is this refusal
@@ -88,8 +98,12 @@ module _ (cs : List ℕ) (i budget operands limit tokens count hints mask : ℕ)
     pub refusal : (rules : Rules) (lists : Lists) (levels at : ℕ) (exact : Bool) (t : Now) → Ruled rules operands limit exact → Counts t tokens count hints mask
         → step rules lists levels at budget (drop i cs) t ≡ refuse k t
 
+  -- the operand o, which may be pushed
+  abbrev pub Pushes : ℕ → Operand → Type 0
+  Pushes j o = Begun cs i j tokens budget × (cut (drop i cs) ≡ token (number o) (drop j cs)) × (count < operands)
+
   abbrev pub Looked : Request → Type 0
-  Looked (Push j o) = Begun cs i j tokens budget × (cut (drop i cs) ≡ token (number o) (drop j cs)) × (count < operands)
+  Looked (Push j o) = Pushes j o
   Looked (Plain j h p) = AtOperator cs i j tokens budget p × Hinted limit count hints p h
   Looked (Masking a b c h p) = AtOperator cs i a tokens budget p × (type2 p ≡ Mask) × (h ≤ limit) × (a ≤ b) × (b ≤ length cs) × Fixed count hints mask c h (b - a)
   Looked (Calling j w) = (p : Operator) × AtOperator cs i j tokens budget p × (type2 p ≡ Call w) × (0 < count)
@@ -97,6 +111,7 @@ module _ (cs : List ℕ) (i budget operands limit tokens count hints mask : ℕ)
   Looked (Finish p) = (j : ℕ) × AtOperator cs i j tokens budget p × (type2 p ≡ End) × (count < 4)
   Looked Out = length cs ≤ i
   Looked (Bad k) = Refuses (numberOf k)
+  Looked (Short j b x) = Pushes j (shortOf b x) × Spelt b x (j - i)
 
 -- ---- the state
 

@@ -1,7 +1,7 @@
 -- One turn of the runner's loop, in the reading's words: the rest of the reading is the whole reading. Assumes nothing.
 use mathlib.Core.Path.{_≡_, refl, sym, ap, subst, _∙_}
 use mathlib.Core.Bool.{Bool, true, false, cond}
-use mathlib.Core.List.{List, [], _∷_, _++_}
+use mathlib.Core.List.{List, [], _∷_, _++_, append-assoc}
 use Prim.Native.Nat.{ℕ, zero, suc, _+_, _-_, _*_, _/_, _≤_, _<_, zero-le}
 use native.Mathlib.Nat.{le-refl, mul-le-mul}
 use native.Mathlib.Numerals.{add-one}
@@ -175,7 +175,7 @@ module _ (rules : Rules) (lists : Lists) (cs : List ℕ) (budget levels limit : 
 
 module _ (rules : Rules) (limit : ℕ) (stack out : List ℕ) (s : State) (t : Now) (r : Repr rules limit stack out s t) (fits : limit ≤ length out) where
   -- of an item i that leaves x behind, with the stack, the hints and the mask that stand for x
-  emitted : (i : Item) (x : Left) (stack₁ out₁ : List ℕ) (s₁ : State) → Good rules (shows i x t) → out₁ ≡ puts limit (s .length) (spelled i) out
+  emitted : (i : Item) (x : Left) (stack₁ out₁ : List ℕ) (s₁ : State) → Good rules (shows i x t) → Written limit out₁ (flat (struck (t .shown)) ++ spelled i)
       → s₁ .count ≤ length stack₁ → x .operands ≡ stackOf stack₁ (s₁ .count) → x .hints ≡ s₁ .hints → s₁ .hints ≤ rules .hints → x .mask ≡ s₁ .mask
       → s₁ .tokens ≡ s .tokens + 1 → s₁ .tail ≡ tailOf (i ∷ struck (t .shown)) → s₁ .length ≡ s .length + length (spelled i)
       → Repr rules limit stack₁ out₁ s₁ (shows i x t)
@@ -191,9 +191,14 @@ module _ (rules : Rules) (limit : ℕ) (stack out : List ℕ) (s : State) (t : N
         tail-is = sym tail;
         length-is = let k = r .length-is in omega (arith, length-append (flat (struck (t .shown))) (spelled i));
         good = g;
-        bytes = subst (λ (l : List ℕ). Written limit l (flat (struck (t .shown)) ++ spelled i)) (sym o)
-            (puts-written limit (s .length) (spelled i) out (flat (struck (t .shown))) fits (r .length-is) (r .bytes));
+        bytes = o;
       }
+
+  -- what is stored is written behind the flat string so far
+  stored-written : (bs out₁ : List ℕ) → out₁ ≡ puts limit (s .length) bs out → Written limit out₁ (flat (struck (t .shown)) ++ bs)
+  stored-written bs out₁ o =
+      subst (λ (l : List ℕ). Written limit l (flat (struck (t .shown)) ++ bs)) (sym o)
+      (puts-written limit (s .length) bs out (flat (struck (t .shown))) fits (r .length-is) (r .bytes))
 
   -- storing changes nothing from the limit on
   pub stored-beyond : (bs out₁ : List ℕ) → out₁ ≡ puts limit (s .length) bs out → Beyond limit out out₁
@@ -319,21 +324,26 @@ module _ (rules : Rules) (lists : Lists) (plain : Plain lists) (cs : List ℕ) (
   led : (x : Step) → Goes rules lists levels at (drop i cs) (h .now) x → Led rules lists budget Bytes (Good rules) (Ends rules) levels x
   led x g = good-goes rules lists budget plain levels at (drop i cs) (h .now) bytes-here (h .repr .good) x g
 
-  pub by-push : (o : Operand) (j w : ℕ) (out₁ : List ℕ) (s₁ : State) → Begun cs i j (s .tokens) budget → cut (drop i cs) ≡ token (number o) (drop j cs)
-      → s .count < length stack → unpackOf w ≡ o → out₁ ≡ puts limit (s .length) (spelling charstringRows o) out
+  -- others may be stored behind an operand: they are not part of the flat string yet
+  pub by-push : (o : Operand) (j w : ℕ) (others out₁ : List ℕ) (s₁ : State) → Begun cs i j (s .tokens) budget → cut (drop i cs) ≡ token (number o) (drop j cs)
+      → s .count < length stack → unpackOf w ≡ o → out₁ ≡ puts limit (s .length) (spelling charstringRows o ++ others) out
       → s₁ ≡ record { count = s .count + 1; tail = s .tail + 1; hints = s .hints; mask = s .mask; tokens = s .tokens + 1; length = s .length + length (spelling charstringRows o) }
       → Turn (set stack (s .count) w) out₁ s₁ j
   unfolding spelled tailOf
-  by-push o j w out₁ s₁ b q l e d same =
+  by-push o j w others out₁ s₁ b q l e d same =
       let g = pushes o (drop j cs) q (subst (λ (n : ℕ). n < rules .operands) (sym (counted-as .count-is)) (subst (λ (n : ℕ). s .count < n) (sym (ruled .operands-are)) l)) in
       let r = h .repr in
+      let f = flat (struck (h .now .shown)) in
+      let bs = spelling charstringRows o in
+      let more = stored-written rules limit stack out s (h .now) r fits (bs ++ others) out₁ d in
+      let written = written-cut limit out₁ (f ++ bs) others (subst (Written limit out₁) (sym (append-assoc f bs others)) more) in
       subst (λ (y : State). Turn (set stack (s .count) w) out₁ y j) (sym same)
       (goes-on rules lists cs budget levels limit t₀ out₀ stack out s i h j _ _ _ _ (b .ahead) (b .inside) (taken (b .within) _ g)
-      (emitted rules limit stack out s (h .now) r fits (operand o) (pushed o (h .now .left)) (set stack (s .count) w) out₁ _ (led _ g .1) d
+      (emitted rules limit stack out s (h .now) r fits (operand o) (pushed o (h .now .left)) (set stack (s .count) w) out₁ _ (led _ g .1) written
       (subst (λ (n : ℕ). s .count + 1 ≤ n) (sym (length-set stack (s .count) w)) (omega arith))
       (ap (λ (z : List Operand). o ∷ z) (r .ops) ∙ sym (stack-pushed stack w o (s .count) e l))
       (r .hints-are) (r .hinted) (r .mask-is) refl (ap (λ (n : ℕ). n + 1) (sym (r .tail-is)) ∙ add-one _) refl)
-      (stored-beyond rules limit stack out s (h .now) r fits (spelling charstringRows o) out₁ d))
+      (stored-beyond rules limit stack out s (h .now) r fits (bs ++ others) out₁ d))
 
   -- ---- operators
 
@@ -349,7 +359,8 @@ module _ (rules : Rules) (lists : Lists) (plain : Plain lists) (cs : List ℕ) (
     unfolding spelled tailOf stackOf
     plain-turn j h₁ x out₁ a g d ops hints hinted mask =
         goes-on rules lists cs budget levels limit t₀ out₀ stack out s i h j _ _ _ _ (a .begun .ahead) (a .begun .inside) (taken (a .begun .within) _ g)
-        (emitted rules limit stack out s (h .now) (h .repr) fits (plainly p) x stack out₁ (plainState h₁) (led _ g .1) d zero-le ops hints hinted mask refl refl refl)
+        (emitted rules limit stack out s (h .now) (h .repr) fits (plainly p) x stack out₁ (plainState h₁) (led _ g .1)
+        (stored-written rules limit stack out s (h .now) (h .repr) fits (operatorBytes p) out₁ d) zero-le ops hints hinted mask refl refl refl)
         (stored-beyond rules limit stack out s (h .now) (h .repr) fits (operatorBytes p) out₁ d)
 
     pub by-plain : (j h₁ : ℕ) (out₁ : List ℕ) (s₁ : State) → AtOperator cs i j (s .tokens) budget p → Hinted hints (s .count) (s .hints) p h₁
@@ -392,7 +403,8 @@ module _ (rules : Rules) (lists : Lists) (plain : Plain lists) (cs : List ℕ) (
         (subst (λ (y : List ℕ). Goes rules lists levels at (drop i cs) (h .now) (go (drop n (drop a cs)) (shows (masked p y) fixedNow (h .now)))) items g) in
         let long : length m ≡ b - a = length-take-le (b - a) (drop a cs) (omega (arith, length-drop a cs)) in
         goes-on rules lists cs budget levels limit t₀ out₀ stack out s i h b _ _ _ _ (let z = q .begun .ahead in omega arith) bn (taken (q .begun .within) _ g₁)
-        (emitted rules limit stack out s (h .now) (h .repr) fits (masked p m) fixedNow stack out₁ (maskState c h₁ (b - a)) (led _ g₁ .1) d room ops hs most ms refl refl
+        (emitted rules limit stack out s (h .now) (h .repr) fits (masked p m) fixedNow stack out₁ (maskState c h₁ (b - a)) (led _ g₁ .1)
+        (stored-written rules limit stack out s (h .now) (h .repr) fits (operatorBytes p ++ m) out₁ d) room ops hs most ms refl refl
         (let e = length-append (operatorBytes p) m in omega arith))
         (stored-beyond rules limit stack out s (h .now) (h .repr) fits (operatorBytes p ++ m) out₁ d)
 

@@ -1,16 +1,18 @@
 -- What the code holds, in the reading's words.
 use mathlib.Core.Path.{_≡_}
-use mathlib.Core.Bool.{Bool, cond}
+use mathlib.Core.Bool.{Bool, false, cond}
 use mathlib.Core.List.{List, [], _∷_}
-use Prim.Native.Nat.{ℕ, zero, suc, _+_, _-_, _%_, _^_, _≤_, _<_}
+use Prim.Native.Nat.{ℕ, zero, suc, _+_, _-_, _/_, _%_, _^_, _≤_, _<_}
 use lib.Dec.{leb, ltb, eqb}
+use lib.IntN.{pos}
 use lib.ListN.{length, getD, set, drop}
 use Rattle.number.specs.Answer.{Answer, accepted, refused}
 use Rattle.number.specs.Signed.{signed}
 use Rattle.number.specs.Call.{callee}
+use Rattle.number.specs.Number.{Number as NumberAt, charstringRows, readBy}
 use Rattle.number.specs.declared.Operand.{Operand}
 use Rattle.index.specs.Index.{Place, place}
-use Rattle.reading.specs.Tokens.{number, operator, Cut, token, lacking, cut}
+use Rattle.reading.specs.Tokens.{number, operator, Cut, token, lacking}
 use Rattle.reading.specs.Answers.{numberOf}
 use Rattle.charstring.specs.declared.token.Token.{Token}
 use Rattle.charstring.specs.declared.token.Token.the-variants.{Number, Operator, Lacking}
@@ -32,9 +34,18 @@ Ahead i n Lacking = Unit {0}
 
 -- ---- operands as words
 
+unfoldable pub operandIn : Answer NumberAt → Operand
+operandIn (accepted n) = n .operand
+operandIn (refused k v) = record { fixed = false; value = pos 0 }
+
+-- the number that starts with these two bytes, which has one of them or both
+unfoldable pub shortOf : ℕ → ℕ → Operand
+shortOf b x = operandIn (readBy charstringRows (b ∷ x ∷ []))
+
 -- the operand that a word holds
 unfoldable pub unpackOf : ℕ → Operand
-unpackOf w = record { fixed = leb 4294967296 w; value = signed (2 ^ 31) (w % 4294967296) }
+unpackOf w =
+    cond (ltb w 65536) (shortOf (w % 256) (w / 256)) (record { fixed = leb 8589934592 w; value = signed (2 ^ 31) (w % 4294967296) })
 
 -- the operands of the first n words, the latest first
 unfoldable pub stackOf : List ℕ → ℕ → List Operand
@@ -74,10 +85,3 @@ targetOf (No k) = refused (numberOf k) []
 abbrev pub Inside : ℕ → Target → Type 0
 Inside n (Enter from to) = (from ≤ to) × (to ≤ n)
 Inside n (No k) = Unit {0}
-
--- the operand o stands at i, and ends at j
-pub record StandsAt (cs : List ℕ) (i j : ℕ) (o : Operand) : Type 0 where
-  pub bytes : (k : ℕ) → getD cs k 0 < 256
-  pub ahead : i < j
-  pub inside : j ≤ length cs
-  pub cut-is : cut (drop i cs) ≡ token (number o) (drop j cs)

@@ -1,11 +1,13 @@
 // Running a charstring: one recursive function over slices, whose bytes are stored below a limit.
 use crate::argstack::pack;
+use crate::argstack::pack_short;
 use crate::argstack::unpack;
 use crate::look::Request;
 use crate::look::look;
 use crate::store::put_bytes;
-use crate::store::put_number;
+use crate::store::put_operand;
 use crate::store::put_operator;
+use crate::store::put_two;
 use crate::store::size_of;
 use crate::subroutines::Target;
 use crate::subroutines::aim;
@@ -86,7 +88,7 @@ pub(crate) fn run<'a>(
         );
         match looked {
             Request::Push(next, o) => {
-                end = put_number(out, by.stored, end, cs, i, next, o);
+                end = put_operand(out, by.stored, end, o);
                 stack[count] = pack(o);
                 count += 1;
                 tail += 1;
@@ -219,6 +221,16 @@ pub(crate) fn run<'a>(
                     how: Ending::Refused(k),
                     st,
                 };
+            }
+            // Both bytes are stored; the second is the next token's if the number has only one.
+            Request::Short(next, b, x) => {
+                put_two(out, by.stored, end, b, x);
+                stack[count] = pack_short(b, x);
+                count += 1;
+                tail += 1;
+                tokens += 1;
+                end += next - i;
+                i = next;
             }
         }
     }

@@ -1,4 +1,5 @@
 // What the token at a place asks for, and the refusals 3 to 7, 11 and 12 in document 01's order.
+use crate::operator::clears;
 use crate::operator::kind_of;
 use crate::token::Token;
 use crate::token::token_at;
@@ -8,7 +9,7 @@ use reading::Operator;
 use reading::Refusal;
 use reading::Which;
 ghost use mathlib.Core.Path.{_≡_};
-ghost use Prim.Native.Nat.{_≤_};
+ghost use Prim.Native.Nat.{ℕ, _<_, _≤_};
 ghost use lib.ListN.{length};
 ghost use Rattle.reading.specs.Rules.{type2};
 ghost use Rattle.reading.specs.declared.Kind.the-variants.{Stem, Mask};
@@ -28,6 +29,8 @@ pub(crate) enum Request {
     // There are no more bytes.
     Out,
     Bad(Refusal),
+    // A number of one byte or two, where the next token starts, and the two bytes from its start on.
+    Short(usize, u8, u8),
 }
 
 pub(crate) fn look(
@@ -50,6 +53,39 @@ pub(crate) fn look(
     if budget <= tokens {
         return Request::Bad(Refusal::BudgetSpent);
     }
+    // most tokens are short numbers, and most operators only clear the stack
+    let b = cs[i];
+    if 31 < b {
+        if b < 255 && i + 1 < cs.len() && count < operands {
+            let next = if b < 247 { i + 1 } else { i + 2 };
+            return Request::Short(next, b, cs[i + 1]);
+        }
+    } else if clears(b) {
+        return Request::Plain(
+            i + 1,
+            hints,
+            Operator {
+                escaped: false,
+                byte: b,
+            },
+        );
+    }
+    look_at(cs, i, operands, limit, count, hints, mask)
+}
+
+// What any token asks for that may be begun.
+fn look_at(
+    cs: &[u8],
+    i: usize,
+    operands: usize,
+    limit: usize,
+    count: usize,
+    hints: usize,
+    mask: usize,
+) -> Request
+    requires { ⌜ (hints ≤ 65535) × (count ≤ 65535) × (i < length (now cs)) ⌝ }
+    ensures { λ r. ⌜ ((tokens budget : ℕ) → tokens < budget → Looked (now (cs .entry)) i budget operands limit tokens count hints mask r) ⌝ }
+{
     match token_at(cs, i) {
         Token::Lacking => Request::Bad(Refusal::BytesLacking),
         Token::Number(next, o) => {

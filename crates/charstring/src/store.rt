@@ -10,37 +10,11 @@ ghost use lib.ListN.{length};
 ghost use Rattle.number.specs.Number.{charstringRows};
 ghost use Rattle.number.specs.Written.{spelling};
 ghost use Rattle.reading.specs.Flat.{operatorBytes};
-ghost use Rattle.charstring.specs.Words.{puts, StandsAt};
+ghost use Rattle.charstring.specs.Words.{puts};
 ghost use Rattle.charstring.specs.Short.{integerBytes, wideBytes, fixedBytes};
 
-// Stores the operand o, which stands at i in cs and ends at `next`, in its shortest form from `at` on; where it ends.
-// One byte and two are the shortest form already.
-pub(crate) fn put_number(
-    out: &mut [u8],
-    limit: usize,
-    at: usize,
-    cs: &[u8],
-    i: usize,
-    next: usize,
-    o: Operand,
-) -> usize
-    requires { ⌜ (limit ≤ length (now out)) × (at < 2 ^ 60) ⌝ }
-    requires { ⌜ StandsAt (now cs) i next o ⌝ }
-    ensures { λ r. ⌜ r ≡ at + length (spelling charstringRows o) ⌝ }
-    ensures { λ r. ⌜ now (out .exit) ≡ puts limit at (spelling charstringRows o) (now (out .entry)) ⌝ }
-{
-    let width = next - i;
-    if width == 1 {
-        return put_byte(out, limit, at, cs[i]);
-    }
-    if width == 2 {
-        return put_two(out, limit, at, cs[i], cs[i + 1]);
-    }
-    put_operand(out, limit, at, o)
-}
-
 // Stores o in its shortest form from `at` on; where it ends.
-fn put_operand(out: &mut [u8], limit: usize, at: usize, o: Operand) -> usize
+pub(crate) fn put_operand(out: &mut [u8], limit: usize, at: usize, o: Operand) -> usize
     requires { ⌜ (limit ≤ length (now out)) × (at < 2 ^ 60) ⌝ }
     ensures { λ r. ⌜ r ≡ at + length (spelling charstringRows o) ⌝ }
     ensures { λ r. ⌜ now (out .exit) ≡ puts limit at (spelling charstringRows o) (now (out .entry)) ⌝ }
@@ -180,7 +154,7 @@ fn put_fixed(out: &mut [u8], limit: usize, at: usize, bits: u64) -> usize
     put_two(out, limit, third, (low / 256) as u8, (low % 256) as u8)
 }
 
-fn put_two(out: &mut [u8], limit: usize, at: usize, x: u8, y: u8) -> usize
+pub(crate) fn put_two(out: &mut [u8], limit: usize, at: usize, x: u8, y: u8) -> usize
     requires { ⌜ (limit ≤ length (now out)) × (at < 2 ^ 61) ⌝ }
     ensures { λ r. ⌜ r ≡ at + 2 ⌝ }
     ensures { λ r. ⌜ now (out .exit) ≡ puts limit at (x ∷ y ∷ []) (now (out .entry)) ⌝ }

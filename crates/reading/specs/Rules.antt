@@ -22,11 +22,15 @@ abbrev pub among : ℕ → List ℕ → Bool
 among b [] = false
 among b (c ∷ cs) = eqb b c || among b cs
 
+-- operators of one byte that only clear the stack
+abbrev pub clearing : List ℕ
+clearing = 4 ∷ 5 ∷ 6 ∷ 7 ∷ 8 ∷ 21 ∷ 22 ∷ 24 ∷ 25 ∷ 26 ∷ 27 ∷ 30 ∷ 31 ∷ []
+
 -- operators of one byte
 unfoldable pub plainKind : ℕ → Kind
 plainKind b =
     cond (among b (1 ∷ 3 ∷ 18 ∷ 23 ∷ [])) Stem
-    (cond (among b (4 ∷ 5 ∷ 6 ∷ 7 ∷ 8 ∷ 21 ∷ 22 ∷ 24 ∷ 25 ∷ 26 ∷ 27 ∷ 30 ∷ 31 ∷ [])) Clear
+    (cond (among b clearing) Clear
     (cond (among b (19 ∷ 20 ∷ [])) Mask
     (cond (eqb b 10) (Call Local)
     (cond (eqb b 29) (Call Global)

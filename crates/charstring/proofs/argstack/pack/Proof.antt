@@ -13,8 +13,11 @@ add-result c = search needs
 returns : tie.Need-returns
 returns c = packed-fixed _ _ (omega arith) (passed (c .before .before .before .args .o .value) (omega arith) (c .before .bits-of .ensures .0)) (c .before .bits-of .ensures .1) (search needs)
 
+add-result-2 : tie.Need-add-result-2
+add-result-2 c = search needs
+
 returns-2 : tie.Need-returns-2
 returns-2 c = packed-integer _ _ (omega arith) (passed (c .before .before .before .args .o .value) (omega arith) (c .before .bits-of .ensures .0)) (c .before .bits-of .ensures .1) (search needs)
 
 pub pack-spec : {M : Type 1} → statement M
-pack-spec = tie.close (tie.spec bits-of-requires add-result returns returns-2)
+pack-spec = tie.close (tie.spec bits-of-requires add-result returns add-result-2 returns-2)

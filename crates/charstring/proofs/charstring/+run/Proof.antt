@@ -6,7 +6,7 @@ use Rattle.number.specs.Written.{spelling}
 use Rattle.charstring.specs.Words.{unpackOf, aimed, targetOf}
 use Rattle.charstring.specs.declared.subroutines.Target.the-variants.{Enter}
 use Rattle.reading.specs.Lists.{listsOf}
-use Rattle.charstring.specs.declared.look.Request.the-variants.{Push, Plain, Mask, Call, Return, End, Out as Empty, Bad}
+use Rattle.charstring.specs.declared.look.Request.the-variants.{Push, Plain, Mask, Call, Return, End, Out as Empty, Bad, Short}
 use mathlib.Core.Path.{_≡_, refl, ap, subst, _∙_}
 use Prim.Native.Nat.{_+_, _-_, _≤_}
 use native.Mathlib.Omega.{arith}
@@ -14,7 +14,7 @@ use lib.ListN.{length, getD, take, drop, length-set}
 use borrow.Author.Needs.{needs}
 use Rattle.charstring.specs.Run.{Looked, RunsTo, chosen, chosenCount}
 use Rattle.charstring.specs.TurnLaws.{begin}
-use Rattle.charstring.specs.ArmLaws.{Stands, Turn, Head, headed, asks, safe, arm-push, arm-plain, arm-mask, arm-out, arm-bad, arm-return, arm-end, arm-no, inside-sound, arm-back, arm-passed, index-there, operator-two, part-long, aims-at, inside-at, setting-now, ended-goes, refused-goes}
+use Rattle.charstring.specs.ArmLaws.{Stands, Turn, Head, headed, asks, safe, arm-push, arm-short, arm-plain, arm-mask, arm-out, arm-bad, arm-return, arm-end, arm-no, inside-sound, arm-back, arm-passed, index-there, operator-two, part-long, aims-at, inside-at, setting-now, ended-goes, refused-goes}
 use Prim.Native.Nat.{ℕ, _<_}
 use borrow.Fn.Kinds.{In, Out}
 use borrow.Fn.PlainCycle.{Measures, is, falls, and}
@@ -22,13 +22,15 @@ use Rattle.charstring.proofs.charstring.run.Reads as run
 use Rattle.charstring.proofs.charstring.run.Kinds as run-kinds
 use Rattle.charstring.proofs.charstring.+run.Lts-run as run-lts
 use Rattle.charstring.proofs.argstack.pack.Reads as pack-reads
+use Rattle.charstring.proofs.argstack.pack_short.Reads as pack-short-reads
 use Rattle.charstring.proofs.argstack.unpack.Reads as unpack-reads
 use Rattle.charstring.proofs.charstring.choose.Reads as choose-reads
 use Rattle.charstring.proofs.charstring.choose_count.Reads as choose-count-reads
 use Rattle.charstring.proofs.look.look.Reads as look-reads
 use Rattle.charstring.proofs.store.put_bytes.Reads as put-bytes-reads
-use Rattle.charstring.proofs.store.put_number.Reads as put-number-reads
+use Rattle.charstring.proofs.store.put_operand.Reads as put-operand-reads
 use Rattle.charstring.proofs.store.put_operator.Reads as put-operator-reads
+use Rattle.charstring.proofs.store.put_two.Reads as put-two-reads
 use Rattle.charstring.proofs.store.size_of.Reads as size-of-reads
 use Rattle.charstring.proofs.subroutines.aim.Reads as aim-reads
 use Rattle.charstring.proofs.charstring.+run.{statement}
@@ -54,7 +56,7 @@ run-μ-loop cs globals locals by stack₀ out₀ levels count₀ tail₀ hints�
     length cs - i
 
 abbrev callees : ℕ → run-lts.Claims
-callees t = (look-reads.Asked, look-reads.Learnt, put-number-reads.Asked, put-number-reads.Learnt, pack-reads.Asked, pack-reads.Learnt, put-operator-reads.Asked, put-operator-reads.Learnt, put-bytes-reads.Asked, put-bytes-reads.Learnt, unpack-reads.Asked, unpack-reads.Learnt, choose-reads.Asked, choose-reads.Learnt, choose-count-reads.Asked, choose-count-reads.Learnt, aim-reads.Asked, aim-reads.Learnt, size-of-reads.Asked, size-of-reads.Learnt, run-below t, run.Post)
+callees t = (look-reads.Asked, look-reads.Learnt, put-operand-reads.Asked, put-operand-reads.Learnt, pack-reads.Asked, pack-reads.Learnt, put-operator-reads.Asked, put-operator-reads.Learnt, put-bytes-reads.Asked, put-bytes-reads.Learnt, unpack-reads.Asked, unpack-reads.Learnt, choose-reads.Asked, choose-reads.Learnt, choose-count-reads.Asked, choose-count-reads.Learnt, aim-reads.Asked, aim-reads.Learnt, size-of-reads.Asked, size-of-reads.Learnt, run-below t, run.Post, put-two-reads.Asked, put-two-reads.Learnt, pack-short-reads.Asked, pack-short-reads.Learnt)
 
 -- what a need asks, at the callees' contracts, the invariant and the measure
 abbrev Of : (run-lts.Claims → In 3 run-kinds.ps → Out 3 run-kinds.ps run-kinds.r → run-lts.InvT-loop → run-lts.MeasureT-loop → Type 0) → ℕ → Type 0
@@ -123,8 +125,8 @@ run-look-requires t c κs = let f = safe _ _ _ _ _ _ _ _ _ _ _ _ (turn-at t c) (
 run-enum-known-looked : (t : ℕ) → Of run-lts.Need-enum-known-looked t
 run-enum-known-looked t c = search needs
 
-run-put-number-requires : (t : ℕ) → Of run-lts.Need-put-number-requires t
-run-put-number-requires t c κs = let d = head t (c .before .before .before .before) in let f = asks _ _ _ _ _ _ _ _ _ _ _ _ _ d (Push _ _) (c .before .before .looked .given .1) in (omega (arith, d .safe-now, f .0), record { bytes = d .turn .bytes; ahead = f .0 .ahead; inside = f .0 .inside; cut-is = f .1 })
+run-put-operand-requires : (t : ℕ) → Of run-lts.Need-put-operand-requires t
+run-put-operand-requires t c κs = let d = head t (c .before .before .before .before) in let f = asks _ _ _ _ _ _ _ _ _ _ _ _ _ d (Push _ _) (c .before .before .looked .given .1) in omega (arith, d .safe-now, f .0)
 
 run-pack-requires : (t : ℕ) → Of run-lts.Need-pack-requires t
 run-pack-requires t c κs = tt
@@ -148,7 +150,7 @@ run-loop-less : (t : ℕ) → Of run-lts.Need-loop-less t
 run-loop-less t c = let d = head t (c .before .before .before .before .before .before .before .before) in let f = asks _ _ _ _ _ _ _ _ _ _ _ _ _ d (Push _ _) (c .before .before .before .before .before .before .looked .given .1) in omega (arith, f .0)
 
 run-loop-again : (t : ℕ) → Of run-lts.Need-loop-again t
-run-loop-again t c = let d = head t (c .before .before .before .before .before .before .before .before) in let f = asks _ _ _ _ _ _ _ _ _ _ _ _ _ d (Push _ _) (c .before .before .before .before .before .before .looked .given .1) in (length-set {A = ℕ} (c .before .before .before .before .before .before .before .before .before .loop .stack) (c .before .before .before .before .before .before .before .before .before .loop .count) (c .pack .result) ∙ c .before .before .before .before .before .before .before .before .before .loop .inv .0, c .before .before .before .put-number .kept .0 ∙ c .before .before .before .before .before .before .before .before .before .loop .inv .1, arm-push _ _ _ _ _ _ _ _ _ _ _ _ (d .turn) _ _ (c .pack .result) _ _ f (c .pack .ensures) (c .before .before .before .put-number .ensures .1) (c .before .before .before .put-number .ensures .0))
+run-loop-again t c = let d = head t (c .before .before .before .before .before .before .before .before) in let f = asks _ _ _ _ _ _ _ _ _ _ _ _ _ d (Push _ _) (c .before .before .before .before .before .before .looked .given .1) in (length-set {A = ℕ} (c .before .before .before .before .before .before .before .before .before .loop .stack) (c .before .before .before .before .before .before .before .before .before .loop .count) (c .pack .result) ∙ c .before .before .before .before .before .before .before .before .before .loop .inv .0, c .before .before .before .put-operand .kept .0 ∙ c .before .before .before .before .before .before .before .before .before .loop .inv .1, arm-push _ _ _ _ _ _ _ _ _ _ _ _ (d .turn) _ _ (c .pack .result) _ _ f (c .pack .ensures) (c .before .before .before .put-operand .ensures .1) (c .before .before .before .put-operand .ensures .0))
 
 run-enum-known-looked-2 : (t : ℕ) → Of run-lts.Need-enum-known-looked-2 t
 run-enum-known-looked-2 t c = search needs
@@ -225,8 +227,8 @@ run-enum-known-target t c = search needs
 run-sub-body : (t : ℕ) → Of run-lts.Need-sub-body t
 run-sub-body t c = let f = called t (c .before) in omega (arith, f .3)
 
-run-sub-t71 : (t : ℕ) → Of run-lts.Need-sub-t71 t
-run-sub-t71 t c = let f = there t (c .before) in omega (arith, f .1 .0)
+run-sub-t74 : (t : ℕ) → Of run-lts.Need-sub-t74 t
+run-sub-t74 t c = let f = there t (c .before) in omega (arith, f .1 .0)
 
 run-add-run : (t : ℕ) → Of run-lts.Need-add-run t
 run-add-run t c = let f = called t (c .before) in omega (arith, f .1 .begun .within, c .before .before .before .before .before .before .before .before .before .before .before .before .before .before .before .before .before .before .good)
@@ -234,8 +236,8 @@ run-add-run t c = let f = called t (c .before) in omega (arith, f .1 .begun .wit
 run-size-of-requires : (t : ℕ) → Of run-lts.Need-size-of-requires t
 run-size-of-requires t c κs = tt
 
-run-sub-t74 : (t : ℕ) → Of run-lts.Need-sub-t74 t
-run-sub-t74 t c = let f = there t (c .before .before) .0 in let e = c .size-of .ensures ∙ ap (λ (o : Operand). length (spelling charstringRows o)) (c .before .before .before .before .before .before .before .unpack .ensures) in omega arith
+run-sub-t77 : (t : ℕ) → Of run-lts.Need-sub-t77 t
+run-sub-t77 t c = let f = there t (c .before .before) .0 in let e = c .size-of .ensures ∙ ap (λ (o : Operand). length (spelling charstringRows o)) (c .before .before .before .before .before .before .before .unpack .ensures) in omega arith
 
 run-sub-body-2 : (t : ℕ) → Of run-lts.Need-sub-body-2 t
 run-sub-body-2 t c = within t (c .before .before) .0
@@ -303,8 +305,8 @@ run-returns-3 t c = let d = head t (c .before .before .before .before .before .b
 run-enum-told-4 : (t : ℕ) → Of run-lts.Need-enum-told-4 t
 run-enum-told-4 t c = search needs
 
-run-add-t82 : (t : ℕ) → Of run-lts.Need-add-t82 t
-run-add-t82 t c = let d = head t (c .before .before) in let f = asks _ _ _ _ _ _ _ _ _ _ _ _ _ d Return (c .enum-told4 .given .1) in omega (arith, f .2 .begun)
+run-add-t85 : (t : ℕ) → Of run-lts.Need-add-t85 t
+run-add-t85 t c = let d = head t (c .before .before) in let f = asks _ _ _ _ _ _ _ _ _ _ _ _ _ d Return (c .enum-told4 .given .1) in omega (arith, f .2 .begun)
 
 run-same-length-7 : (t : ℕ) → Of run-lts.Need-same-length-7 t
 run-same-length-7 t c = c .before .before .before .loop .inv .0
@@ -322,8 +324,8 @@ run-enum-known-looked-5 t c = search needs
 run-put-operator-requires-3 : (t : ℕ) → Of run-lts.Need-put-operator-requires-3 t
 run-put-operator-requires-3 t c κs = let d = head t (c .before .before .before .before) in let f = asks _ _ _ _ _ _ _ _ _ _ _ _ _ d (End _) (c .before .before .looked5 .given .1) in omega (arith, d .safe-now, f .1 .begun)
 
-run-add-t86 : (t : ℕ) → Of run-lts.Need-add-t86 t
-run-add-t86 t c = let d = head t (c .before .before .before .before .before .before .before) in let f = asks _ _ _ _ _ _ _ _ _ _ _ _ _ d (End _) (c .before .before .before .before .before .looked5 .given .1) in omega (arith, f .1 .begun)
+run-add-t89 : (t : ℕ) → Of run-lts.Need-add-t89 t
+run-add-t89 t c = let d = head t (c .before .before .before .before .before .before .before) in let f = asks _ _ _ _ _ _ _ _ _ _ _ _ _ d (End _) (c .before .before .before .before .before .looked5 .given .1) in omega (arith, f .1 .begun)
 
 run-same-length-9 : (t : ℕ) → Of run-lts.Need-same-length-9 t
 run-same-length-9 t c = c .before .before .before .before .before .before .before .before .loop .inv .0
@@ -361,6 +363,42 @@ run-returns-7 : (t : ℕ) → Of run-lts.Need-returns-7 t
 unfolding RunsTo
 run-returns-7 t c = let d = head t (c .before .before .before) in let f = asks _ _ _ _ _ _ _ _ _ _ _ _ _ d (Bad _) (c .before .looked6 .given .1) in arm-bad _ _ _ _ _ _ _ _ _ _ _ _ (d .turn) _ f
 
+run-enum-known-looked-7 : (t : ℕ) → Of run-lts.Need-enum-known-looked-7 t
+run-enum-known-looked-7 t c = search needs
+
+run-put-two-requires : (t : ℕ) → Of run-lts.Need-put-two-requires t
+run-put-two-requires t c κs = let d = head t (c .before .before .before .before) in let f = asks _ _ _ _ _ _ _ _ _ _ _ _ _ d (Short _ _ _) (c .before .before .looked7 .given .1) in omega (arith, d .safe-now, f .0 .0)
+
+run-pack-short-requires : (t : ℕ) → Of run-lts.Need-pack-short-requires t
+run-pack-short-requires t c κs = tt
+
+run-mul-stack-2 : (t : ℕ) → Of run-lts.Need-mul-stack-2 t
+run-mul-stack-2 t c = let d = head t (c .before .before .before .before .before .before .before .before) in let f = asks _ _ _ _ _ _ _ _ _ _ _ _ _ d (Short _ _ _) (c .before .before .before .before .before .before .looked7 .given .1) in omega (arith, d .safe-now, f .0 .2)
+
+run-slice-write-stack-2 : (t : ℕ) → Of run-lts.Need-slice-write-stack-2 t
+run-slice-write-stack-2 t c = let d = head t (c .before .before .before .before .before .before .before .before) in let f = asks _ _ _ _ _ _ _ _ _ _ _ _ _ d (Short _ _ _) (c .before .before .before .before .before .before .looked7 .given .1) in omega (arith, d .safe-now, f .0 .2)
+
+run-add-count-2 : (t : ℕ) → Of run-lts.Need-add-count-2 t
+run-add-count-2 t c = let d = head t (c .before .before .before .before .before .before .before .before) in let f = asks _ _ _ _ _ _ _ _ _ _ _ _ _ d (Short _ _ _) (c .before .before .before .before .before .before .looked7 .given .1) in omega (arith, d .safe-now, f .0 .2)
+
+run-add-tail-2 : (t : ℕ) → Of run-lts.Need-add-tail-2 t
+run-add-tail-2 t c = let d = head t (c .before .before .before .before .before .before .before .before) in let f = asks _ _ _ _ _ _ _ _ _ _ _ _ _ d (Short _ _ _) (c .before .before .before .before .before .before .looked7 .given .1) in omega (arith, d .safe-now, f .0 .2)
+
+run-add-tokens-4 : (t : ℕ) → Of run-lts.Need-add-tokens-4 t
+run-add-tokens-4 t c = let d = head t (c .before .before .before .before .before .before .before .before) in let f = asks _ _ _ _ _ _ _ _ _ _ _ _ _ d (Short _ _ _) (c .before .before .before .before .before .before .looked7 .given .1) in omega (arith, f .0 .0 .within, c .before .before .before .before .before .before .before .before .before .before .before .before .before .before .before .good)
+
+run-sub-end : (t : ℕ) → Of run-lts.Need-sub-end t
+run-sub-end t c = let d = head t (c .before .before .before .before .before .before .before .before) in let f = asks _ _ _ _ _ _ _ _ _ _ _ _ _ d (Short _ _ _) (c .before .before .before .before .before .before .looked7 .given .1) in omega (arith, f .0 .0)
+
+run-add-end : (t : ℕ) → Of run-lts.Need-add-end t
+run-add-end t c = let d = head t (c .before .before .before .before .before .before .before .before) in let f = asks _ _ _ _ _ _ _ _ _ _ _ _ _ d (Short _ _ _) (c .before .before .before .before .before .before .looked7 .given .1) in omega (arith, d .safe-now, f .0 .0, c .before .before .before .before .before .before .before .before .before .before .before .before .before .before .before .good)
+
+run-loop-less-5 : (t : ℕ) → Of run-lts.Need-loop-less-5 t
+run-loop-less-5 t c = let d = head t (c .before .before .before .before .before .before .before .before) in let f = asks _ _ _ _ _ _ _ _ _ _ _ _ _ d (Short _ _ _) (c .before .before .before .before .before .before .looked7 .given .1) in omega (arith, f .0 .0)
+
+run-loop-again-5 : (t : ℕ) → Of run-lts.Need-loop-again-5 t
+run-loop-again-5 t c = let d = head t (c .before .before .before .before .before .before .before .before) in let f = asks _ _ _ _ _ _ _ _ _ _ _ _ _ d (Short _ _ _) (c .before .before .before .before .before .before .looked7 .given .1) in (length-set {A = ℕ} (c .before .before .before .before .before .before .before .before .before .loop .stack) (c .before .before .before .before .before .before .before .before .before .loop .count) (c .pack-short .result) ∙ c .before .before .before .before .before .before .before .before .before .loop .inv .0, c .before .before .before .put-two .kept .0 ∙ c .before .before .before .before .before .before .before .before .before .loop .inv .1, arm-short _ _ _ _ _ _ _ _ _ _ _ _ (d .turn) _ _ _ (c .pack-short .result) _ _ f (c .pack-short .ensures) (c .before .before .before .put-two .ensures .1) refl)
+
 pub +run-spec : {M : Type 1} → statement M
 +run-spec = close μ-run λ t. run-lts.spec (callees t)
     (run-at t)
@@ -370,7 +408,7 @@ pub +run-spec : {M : Type 1} → statement M
     (run-loop-holds t)
     (run-look-requires t)
     (run-enum-known-looked t)
-    (run-put-number-requires t)
+    (run-put-operand-requires t)
     (run-pack-requires t)
     (run-mul-stack t)
     (run-slice-write-stack t)
@@ -404,10 +442,10 @@ pub +run-spec : {M : Type 1} → statement M
     (run-aim-requires t)
     (run-enum-known-target t)
     (run-sub-body t)
-    (run-sub-t71 t)
+    (run-sub-t74 t)
     (run-add-run t)
     (run-size-of-requires t)
-    (run-sub-t74 t)
+    (run-sub-t77 t)
     (run-sub-body-2 t)
     (run-part-body-start t)
     (run-part-body-end t)
@@ -429,13 +467,13 @@ pub +run-spec : {M : Type 1} → statement M
     (run-same-length-6 t)
     (run-returns-3 t)
     (run-enum-told-4 t)
-    (run-add-t82 t)
+    (run-add-t85 t)
     (run-same-length-7 t)
     (run-same-length-8 t)
     (run-returns-4 t)
     (run-enum-known-looked-5 t)
     (run-put-operator-requires-3 t)
-    (run-add-t86 t)
+    (run-add-t89 t)
     (run-same-length-9 t)
     (run-same-length-10 t)
     (run-returns-5 t)
@@ -447,3 +485,15 @@ pub +run-spec : {M : Type 1} → statement M
     (run-same-length-13 t)
     (run-same-length-14 t)
     (run-returns-7 t)
+    (run-enum-known-looked-7 t)
+    (run-put-two-requires t)
+    (run-pack-short-requires t)
+    (run-mul-stack-2 t)
+    (run-slice-write-stack-2 t)
+    (run-add-count-2 t)
+    (run-add-tail-2 t)
+    (run-add-tokens-4 t)
+    (run-sub-end t)
+    (run-add-end t)
+    (run-loop-less-5 t)
+    (run-loop-again-5 t)

@@ -1,26 +1,15 @@
-use Rattle.charstring.specs.LookLaws.{spends, lacks, full, asked}
-use Rattle.charstring.specs.Words.{cutOf, Ahead}
-use Rattle.reading.specs.Tokens.{number, operator, token, cut}
-use lib.ListN.{length, drop}
-use Prim.Native.Nat.{_<_, _≤_}
-use mathlib.Core.Path.{_≡_, sym, ap, subst, _∙_}
+use Rattle.charstring.specs.LookLaws.{spends}
+use Rattle.charstring.proofs.Cuts.{wideOf, short-looked, clear-looked}
+use Prim.Native.Nat.{_+_}
+use mathlib.Core.Logic.{⊎-elim}
+use mathlib.Core.Path.{_≡_, sym, ap, _∙_}
 use native.Mathlib.Omega.{arith}
 use borrow.Author.Needs.{needs}
+use borrow.Author.Tests.{lt-ltb, le-ltb, ltb-true}
+use mathlib.Core.Bool.{Bool, cond}
+use lib.ListN.{length, getD}
 use Rattle.charstring.proofs.look.look.Statement.{statement}
 use Rattle.charstring.proofs.look.look.Tie as tie
-
--- where a number is bound, and where an operator is
-number-cut : (c : tie.After-next) → token (number (c .next .given .0 .1 .0)) (drop (c .next .given .0 .0) (c .before .before .before .before .before .before .args .cs .now)) ≡ cut (drop (c .before .before .before .before .before .before .args .i) (c .before .before .before .before .before .before .args .cs .now))
-number-cut c = ap (cutOf (c .before .before .before .before .before .before .args .cs .now)) (sym (c .next .given .1)) ∙ c .before .before .token-at .ensures .0
-
-number-ahead : (c : tie.After-next) → (c .before .before .before .before .before .before .args .i < c .next .given .0 .0) × (c .next .given .0 .0 ≤ length (c .before .before .before .before .before .before .args .cs .now))
-number-ahead c = subst (Ahead (c .before .before .before .before .before .before .args .i) (length (c .before .before .before .before .before .before .args .cs .now))) (c .next .given .1) (c .before .before .token-at .ensures .1)
-
-operator-cut : (c : tie.After-next2) → token (operator (c .next2 .given .0 .1 .0)) (drop (c .next2 .given .0 .0) (c .before .before .before .before .before .before .args .cs .now)) ≡ cut (drop (c .before .before .before .before .before .before .args .i) (c .before .before .before .before .before .before .args .cs .now))
-operator-cut c = ap (cutOf (c .before .before .before .before .before .before .args .cs .now)) (sym (c .next2 .given .1)) ∙ c .before .before .token-at .ensures .0
-
-operator-ahead : (c : tie.After-next2) → (c .before .before .before .before .before .before .args .i < c .next2 .given .0 .0) × (c .next2 .given .0 .0 ≤ length (c .before .before .before .before .before .before .args .cs .now))
-operator-ahead c = subst (Ahead (c .before .before .before .before .before .before .args .i) (length (c .before .before .before .before .before .before .args .cs .now))) (c .next2 .given .1) (c .before .before .token-at .ensures .1)
 
 returns : tie.Need-returns
 returns c = search needs
@@ -28,32 +17,56 @@ returns c = search needs
 returns-2 : tie.Need-returns-2
 returns-2 c = spends _ _ _ _ _ _ _ _ _ (omega arith) (omega arith)
 
-token-at-requires : tie.Need-token-at-requires
-token-at-requires c κs = search needs
+shared-slice-read-b : tie.Need-shared-slice-read-b
+shared-slice-read-b c = search needs
 
-enum-told : tie.Need-enum-told
-enum-told c = search needs
+add-if5 : tie.Need-add-if5
+add-if5 c = search needs
 
-enum-known-next : tie.Need-enum-known-next
-enum-known-next c = search needs
+add-next : tie.Need-add-next
+add-next c = search needs
+
+add-next-2 : tie.Need-add-next-2
+add-next-2 c = search needs
+
+add-t24 : tie.Need-add-t24
+add-t24 c = search needs
+
+shared-slice-read-t26 : tie.Need-shared-slice-read-t26
+shared-slice-read-t26 c = search needs
+
+-- where the token behind a short number starts
+next-is : (c : tie.Joined7)
+    → c .if7 .next ≡ c .before .before .before .before .before .before .before .before .before .args .i + wideOf (getD (c .before .before .before .before .before .before .before .before .before .args .cs .now) (c .before .before .before .before .before .before .before .before .before .args .i) 0)
+next-is c =
+    let g = c .before .before .before .before .before .before .before .before .before .args in
+    let b = getD (g .cs .now) (g .i) 0 in
+    ⊎-elim
+    (λ y. y .1 ∙ ap (λ (t : Bool). g .i + cond t 1 2) (sym (lt-ltb b 247 (y .0 .taken))))
+    (λ y. y .1 ∙ ap (λ (t : Bool). g .i + cond t 1 2) (sym (le-ltb b 247 (y .0 .left))))
+    (c .if7 .came)
 
 returns-3 : tie.Need-returns-3
-returns-3 c = full _ _ _ _ _ _ _ _ _ (omega arith) (omega arith) _ _ (number-cut (c .before .before)) (omega arith)
+returns-3 c =
+    let g = c .before .before .before .before .before .before .before .before .before .before .args in
+    short-looked (g .cs .now) (g .i) (ltb-true (g .i + 1) (length (g .cs .now)) (c .before .before .before .if5 .taken)) (omega arith) (omega arith) (g .budget) (g .operands) (g .limit) (g .tokens) (g .count) (g .hints) (g .mask) _ (omega arith) (ltb-true (g .count) (g .operands) (c .before .before .if6 .taken)) (c .shared-slice-known3 .given (g .i + 1) .fits) (next-is (c .before))
 
-enum-known-next-2 : tie.Need-enum-known-next-2
-enum-known-next-2 c = search needs
+clears-requires : tie.Need-clears-requires
+clears-requires c κs = search needs
 
-ask-requires : tie.Need-ask-requires
-ask-requires c κs = let a = operator-ahead (c .before) in (search needs, search needs, a .1)
+add-t28 : tie.Need-add-t28
+add-t28 c = search needs
 
 returns-4 : tie.Need-returns-4
-returns-4 c = lacks _ _ _ _ _ _ _ _ _ (omega arith) (omega arith) (ap (cutOf (c .before .before .before .before .before .before .args .cs .now)) (sym (c .enum-told .given .1)) ∙ c .before .before .token-at .ensures .0)
+returns-4 c =
+    let g = c .before .before .before .before .before .before .before .args in
+    clear-looked (g .cs .now) (g .i) (omega arith) (c .before .clears .ensures .0 (search needs)) (omega arith) (g .budget) (g .operands) (g .limit) (g .tokens) (g .count) (g .hints) (g .mask) (omega arith)
+
+look-at-requires : tie.Need-look-at-requires
+look-at-requires c κs = search needs
 
 returns-5 : tie.Need-returns-5
-returns-5 c = let a = number-ahead (c .before .before) in (record { ahead = a .0; inside = a .1; within = omega arith }, sym (number-cut (c .before .before)), omega arith)
-
-returns-6 : tie.Need-returns-6
-returns-6 c = let a = operator-ahead (c .before .before) in let g = c .before .before .before .before .before .before .before .before .args in asked (g .cs .now) (g .i) (g .budget) (g .operands) (g .limit) (g .tokens) (g .count) (g .hints) (g .mask) (omega arith) (omega arith) (c .before .before .next2 .given .0 .1 .0) (c .before .before .next2 .given .0 .0) (operator-cut (c .before .before)) (a .0) (a .1) (c .ask .result) (c .ask .ensures)
+returns-5 c = c .look-at .ensures _ _ (omega arith)
 
 pub look-spec : {M : Type 1} → statement M
 look-spec =
@@ -61,12 +74,15 @@ look-spec =
     (tie.spec
     returns
     returns-2
-    token-at-requires
-    enum-told
-    enum-known-next
+    shared-slice-read-b
+    add-if5
+    add-next
+    add-next-2
+    add-t24
+    shared-slice-read-t26
     returns-3
-    enum-known-next-2
-    ask-requires
+    clears-requires
+    add-t28
     returns-4
-    returns-5
-    returns-6)
+    look-at-requires
+    returns-5)
