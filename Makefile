@@ -3,7 +3,7 @@ SECONDS =
 SOURCES = ../shared
 export SOURCES
 
-.PHONY: test run lib list differential faults fixed bench clean
+.PHONY: test run lib list differential faults fixed fuzz fuzz-faults bench clean
 
 test:
 	@tools/test $(or $(SECONDS),60)
@@ -48,6 +48,20 @@ fixed:
 	tools/native-staticlib ighzamrel
 	tools/oracle/build fixed
 	target/oracle/fixed
+
+# the nine C functions under libFuzzer for SECONDS, against the Rust and document 01's rules; what it learns is kept in the folder CORPUS
+CORPUS = target/fuzz/corpus
+fuzz:
+	fuzz/build
+	fuzz/seeds target/fuzz/seeds
+	mkdir -p $(CORPUS)
+	target/fuzz/target -max_total_time=$(or $(SECONDS),60) -max_len=2048 -dict=fuzz/tokens.dict -print_final_stats=1 -artifact_prefix=target/fuzz/ $(CORPUS) target/fuzz/seeds
+
+# that target against faults that are planted before the library, at most SECONDS for each
+fuzz-faults:
+	fuzz/build
+	fuzz/seeds target/fuzz/seeds
+	fuzz/faults $(or $(SECONDS),60)
 
 # speed, the proved functions against the Rust; FONTS names folders to look for fonts in, else Debian's are searched
 bench:
