@@ -53,14 +53,11 @@ fixed:
 CORPUS = target/fuzz/corpus
 fuzz:
 	fuzz/build
-	fuzz/seeds target/fuzz/seeds
-	mkdir -p $(CORPUS)
-	target/fuzz/target -max_total_time=$(or $(SECONDS),60) -max_len=2048 -dict=fuzz/tokens.dict -print_final_stats=1 -artifact_prefix=target/fuzz/ $(CORPUS) target/fuzz/seeds
+	fuzz/run target $(or $(SECONDS),60) $(CORPUS)
 
 # that target against faults that are planted before the library, at most SECONDS for each
 fuzz-faults:
 	fuzz/build
-	fuzz/seeds target/fuzz/seeds
 	fuzz/faults $(or $(SECONDS),60)
 
 # speed, the proved functions against the Rust; FONTS names folders to look for fonts in, else Debian's are searched

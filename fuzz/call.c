@@ -117,6 +117,8 @@ static void keep_out(struct outcome *o, const struct call *call, const uint8_t *
     memcpy(o->out, out, o->length);
 }
 
+unsigned long performed;
+
 struct outcome perform(const struct call *call, enum side side)
 {
     struct outcome o = {.places = {{.bits = UNSET}, {.bits = UNSET}, {.bits = UNSET}}};
@@ -130,6 +132,7 @@ struct outcome perform(const struct call *call, enum side side)
     }
     if (call->shared)
         slices[LOCALS] = slices[GLOBALS];
+    performed++;
     o.answer = invoke(call, slices, out, o.places);
     look_at_places(call, &o);
     look_at_lent(call, &o, out, side);

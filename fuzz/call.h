@@ -71,6 +71,10 @@ extern const struct shape shapes[FUNCTIONS];
 int given(enum function function, uint32_t answer);
 
 struct outcome perform(const struct call *call, enum side side);
+
+/* How many calls were performed. */
+extern unsigned long performed;
+
 int same_outcome(const struct outcome *a, const struct outcome *b);
 void outcome_free(struct outcome *outcome);
 

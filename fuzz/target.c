@@ -19,6 +19,7 @@ static uint8_t reached[FUNCTIONS * 32 + 512] __attribute__((used, section("__lib
 static void print_counts(void)
 {
     int function, answer;
+    fprintf(stderr, "fuzz: %lu calls of the library; the answers to the first call of each input:\n", performed);
     for (function = 0; function < FUNCTIONS; function++) {
         fprintf(stderr, "fuzz: %s", shapes[function].name);
         for (answer = 0; answer <= MOST_ANSWER; answer++)
