@@ -3,13 +3,18 @@ SECONDS =
 SOURCES = ../shared
 export SOURCES
 
-.PHONY: test run lib list differential faults fixed fuzz fuzz-faults bench clean
+.PHONY: kit test run lib native list differential faults fixed fuzz fuzz-faults bench clean
 
-test:
+# the proofs, the compiler and the loader are the kit's
+kit:
+	@command -v rt >/dev/null || { echo 'make: the Rattle kit is not at hand: its command, rt, is not in PATH' >&2; exit 1; }
+
+test: kit
 	@tools/test $(or $(SECONDS),60)
 
 # the program `flatten`, proved and built, on two font parts
-run:
+run: kit
+	@echo 'make run: proves and builds the program flatten, which takes some minutes the first time, and then runs it on two font parts.'
 	@rt check flatten
 	@echo
 	@echo 'examples/squares.part, a glyph that calls one subroutine twice: 0, the length and the tokens run; then its flat string.'
@@ -19,8 +24,14 @@ run:
 	@tools/run flatten examples/forty.part
 
 # what a user links, under target/lib: the proved archive, the header and a pkg-config file
-lib:
+lib: kit
 	@tools/lib
+
+# the same for the machine that this runs on, under target/native: to try and to measure with, where that is not x86-64
+native: kit
+	@tools/native-staticlib ighzamrel
+	@tools/lib target/native
+	@echo 'native: target/native has libighzamrel.a, include/ighzamrel.h and pkgconfig/ighzamrel.pc for this machine'
 
 # the stored list of the program `cases`, made anew from the Rust's answers and document 01's rules
 list:

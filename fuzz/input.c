@@ -124,8 +124,8 @@ static struct slice data_of(struct slice from, int flags, uint64_t sum)
 }
 
 /*
- * Lists of 33,900 entries and INDEXes of 65,535 elements take long. What the bytes add up to says whether they may come
- * up, so that they stay as rare as this, however much the fuzzer likes them.
+ * Lists of 33,900 entries, INDEXes of 65,535 elements and runs of many tokens take long. What the bytes add up to says
+ * whether they may come up, so that they stay as rare as this, however much the fuzzer likes them.
  */
 static int may_be_long(struct slice all)
 {
@@ -163,24 +163,32 @@ static void take_slices(struct call *call, const uint8_t *head, struct slice lef
     slices[2] = copied(none);
 }
 
+/* What a run may take: seldom as much as over 65,535 hints do. */
+static uint32_t budget_of(uint32_t given, int long_one)
+{
+    if (!long_one)
+        return given % 5000;
+    return given < 0xFFF0 ? given : AMPLE;
+}
+
 struct call input_call(const uint8_t *data, size_t size)
 {
     uint8_t head[HEAD] = {0};
     struct slice left = {data, size}, first = cut(&left, HEAD);
     struct call call = {0};
-    uint32_t budget, room;
+    uint32_t room;
+    int long_one = may_be_long((struct slice){data, size});
     memcpy(head, first.bytes, first.size);
-    budget = number_at(head + 3, 2);
     room = number_at(head + 5, 2);
     call.function = (head[0] & 15) < FLATTEN ? head[0] & 15 : FLATTEN;
     call.kind = head[1] & ODD ? head[2] * UINT32_C(0x01010100) : head[2] & 1u;
     call.profile = !(head[1] & STRICT) ? 0 : head[1] & ODD ? UINT32_C(0x80000000) : 1;
-    call.budget = budget < 0xFFF0 ? budget : AMPLE;
+    call.budget = budget_of(number_at(head + 3, 2), long_one);
     call.room = room < 0xFFF0 ? room % 600 : WIDE;
     call.number = number_at(head + 7, 4);
     call.value = (int32_t)call.number;
     call.shared = call.function == FLATTEN && (head[1] & SHARED) != 0;
-    take_slices(&call, head, left, may_be_long((struct slice){data, size}));
+    take_slices(&call, head, left, long_one);
     return call;
 }
 

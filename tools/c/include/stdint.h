@@ -1,0 +1,9 @@
+/* As stddef.h here. */
+#ifndef STDINT_H
+#define STDINT_H
+
+typedef __UINT8_TYPE__ uint8_t;
+typedef __UINT32_TYPE__ uint32_t;
+typedef __INT32_TYPE__ int32_t;
+
+#endif

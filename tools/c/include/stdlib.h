@@ -1,0 +1,7 @@
+/* As stddef.h here. */
+#ifndef STDLIB_H
+#define STDLIB_H
+
+void exit(int status);
+
+#endif
