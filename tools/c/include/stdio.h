@@ -8,6 +8,5 @@ typedef struct file FILE;
 extern FILE *stderr;
 int printf(const char *format, ...);
 int fprintf(FILE *file, const char *format, ...);
-int puts(const char *line);
 
 #endif
