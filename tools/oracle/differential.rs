@@ -109,7 +109,9 @@ fn compare(
 ) -> Result<(), String> {
     let failed = |why: std::io::Error| format!("{program}: {why}");
     fs::write(RECORDS, row(records, tail)).map_err(failed)?;
-    let run = Command::new(program)
+    // its code is x86-64, and tools/run has a loader for that on every machine
+    let run = Command::new("tools/run")
+        .arg(program)
         .stdin(File::open(RECORDS).map_err(failed)?)
         .stdout(Stdio::piped())
         .stderr(Stdio::inherit())
