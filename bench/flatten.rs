@@ -3,6 +3,7 @@
 
 #[path = "../tools/oracle/fonts.rs"]
 mod fonts;
+mod hand;
 mod hostile;
 #[path = "../tools/oracle/library.rs"]
 mod library;
@@ -31,7 +32,7 @@ const ROOM: usize = 1 << 20;
 const INTRODUCTION: &str = "\
 Best of 15 passes, the two sides in turns; nanoseconds. The room that is lent to ours is one buffer, cleared once; the Rust allocates its own.
 The Rust's lists are parsed once a font and not timed. Ours looks at the lists' bytes at each call: that check is the flattening of an empty
-charstring with the same lists, and is told apart.
+charstring with the same lists, and is told apart. By hand: the same loop in C without a proof, lists known to be well formed (bench/by_hand.c).
 ";
 
 fn main() -> ExitCode {
@@ -54,6 +55,7 @@ struct Times {
     whole: f64,
     check: f64,
     rust: f64,
+    hand: f64,
 }
 
 impl Times {
@@ -63,19 +65,21 @@ impl Times {
         self.whole += other.whole;
         self.check += other.check;
         self.rust += other.rust;
+        self.hand += other.hand;
     }
 
     fn row(&self, name: &str) {
         let each = |time: f64| time / self.glyphs as f64;
         let ours = self.whole - self.check;
         println!(
-            "| {name} | {} | {} | {:.0} | {:.0} | {:.2} | {:.2} | {:.0} | {:.0} | {:.2} |",
+            "| {name} | {} | {} | {:.0} | {:.0} | {:.2} | {:.2} | {:.2} | {:.0} | {:.0} | {:.2} |",
             self.glyphs,
             self.tokens,
             each(ours),
             each(self.rust),
             self.rust / ours,
             ours / self.tokens as f64,
+            self.hand / self.tokens as f64,
             each(self.check),
             each(self.whole),
             self.rust / self.whole,
@@ -84,8 +88,8 @@ impl Times {
 }
 
 fn of_fonts(folders: &[PathBuf]) -> Result<(), String> {
-    println!("| font | glyphs | tokens | ours, a glyph | the Rust | the Rust / ours | ours, a token | the check | ours with the check | the Rust / ours with the check |");
-    println!("|---|---|---|---|---|---|---|---|---|---|");
+    println!("| font | glyphs | tokens | ours, a glyph | the Rust | the Rust / ours | ours, a token | by hand, a token | the check | ours with the check | the Rust / ours with the check |");
+    println!("|---|---|---|---|---|---|---|---|---|---|---|");
     let mut all = Times::default();
     for path in fonts::files(folders) {
         let found = fonts::read(&path).map_err(|e| format!("{}: {e}", path.display()))?;
@@ -129,13 +133,14 @@ fn of_font(font: &Font) -> Result<Times, String> {
             _ => return Err(format!("{}: the two sides differ", font.name)),
         }
     }
-    let [whole, check, rust] = best_of_three(&timed, &lists, &mut out);
-    Ok(Times { glyphs: timed.len(), tokens, whole, check, rust })
+    hand::agrees(&timed, &mut out).map_err(|e| format!("{}: {e}", font.name))?;
+    let [whole, check, rust, hand] = best_of_each(&timed, &lists, &mut out);
+    Ok(Times { glyphs: timed.len(), tokens, whole, check, rust, hand })
 }
 
-/// Ours, the check of the lists by itself, and the Rust.
-fn best_of_three(timed: &[(Glyph, usize)], lists: &[(&[u8], Lists)], out: &mut [u8]) -> [f64; 3] {
-    let mut spare = vec![0; ROOM];
+/// Ours, the check of the lists by itself, the Rust, and the loop by hand.
+fn best_of_each(timed: &[(Glyph, usize)], lists: &[(&[u8], Lists)], out: &mut [u8]) -> [f64; 4] {
+    let [mut spare, mut room] = [vec![0; ROOM], vec![0; ROOM]];
     best_of(
         PASSES,
         [
@@ -153,6 +158,11 @@ fn best_of_three(timed: &[(Glyph, usize)], lists: &[(&[u8], Lists)], out: &mut [
             &mut || {
                 for (glyph, which) in timed {
                     let _ = black_box(lists[*which].1.flattened(black_box(glyph.charstring)));
+                }
+            },
+            &mut || {
+                for (glyph, _) in timed {
+                    black_box(hand::flatten(black_box(glyph), AMPLE, &mut room));
                 }
             },
         ],

@@ -21,7 +21,13 @@ sub-result-2 : tie.Need-sub-result-2
 sub-result-2 c = let h = flipped-casts (c .before .args .z) (c .before .fits .z) (c .if1 .taken) .1 .fits in omega arith
 
 returns : tie.Need-returns
-returns c = (bits-down _ _ (down-is (c .before .args .z) _ ((c .before .fits .z) .sfits) (ap halfOf (sym (moved (c .before .args .z) ((c .before .fits .z) .sfits) refl))) (sym (flipped-half (c .before .args .z) (c .before .fits .z) (c .if1 .taken)))), omega arith)
+returns c =
+    let args = c .before .args in
+    let fits = c .before .fits in (
+      bits-down _ _
+          (down-is (args .z) _ ((fits .z) .sfits) (ap halfOf (sym (moved (args .z) ((fits .z) .sfits) refl))) (sym (flipped-half (args .z) (fits .z) (c .if1 .taken)))),
+      omega arith,
+    )
 
 cast-result-3 : tie.Need-cast-result-3
 cast-result-3 c = kept-casts (c .before .args .z) (c .before .fits .z) (c .if1 .left)
@@ -30,7 +36,13 @@ cast-result-4 : tie.Need-cast-result-4
 cast-result-4 c = let h = kept-casts (c .before .args .z) (c .before .fits .z) (c .if1 .left) .1 .fits in record { fits = omega arith }
 
 returns-2 : tie.Need-returns-2
-returns-2 c = (bits-up _ _ (up-is (c .before .args .z) _ ((c .before .fits .z) .sfits) (ap halfOf (sym (moved (c .before .args .z) ((c .before .fits .z) .sfits) refl))) (sym (kept-half (c .before .args .z) (c .before .fits .z) (c .if1 .left)))), kept-casts (c .before .args .z) (c .before .fits .z) (c .if1 .left) .1 .fits)
+returns-2 c =
+    let args = c .before .args in
+    let fits = c .before .fits in (
+      bits-up _ _
+          (up-is (args .z) _ ((fits .z) .sfits) (ap halfOf (sym (moved (args .z) ((fits .z) .sfits) refl))) (sym (kept-half (args .z) (fits .z) (c .if1 .left)))),
+      kept-casts (args .z) (fits .z) (c .if1 .left) .1 .fits,
+    )
 
 pub bits-of-spec : {M : Type 1} → statement M
 bits-of-spec =

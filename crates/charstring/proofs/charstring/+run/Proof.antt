@@ -56,7 +56,34 @@ run-μ-loop cs globals locals by stack₀ out₀ levels count₀ tail₀ hints�
     length cs - i
 
 abbrev callees : ℕ → run-lts.Claims
-callees t = (look-reads.Asked, look-reads.Learnt, put-operand-reads.Asked, put-operand-reads.Learnt, pack-reads.Asked, pack-reads.Learnt, put-operator-reads.Asked, put-operator-reads.Learnt, put-bytes-reads.Asked, put-bytes-reads.Learnt, unpack-reads.Asked, unpack-reads.Learnt, choose-reads.Asked, choose-reads.Learnt, choose-count-reads.Asked, choose-count-reads.Learnt, aim-reads.Asked, aim-reads.Learnt, size-of-reads.Asked, size-of-reads.Learnt, run-below t, run.Post, put-two-reads.Asked, put-two-reads.Learnt, pack-short-reads.Asked, pack-short-reads.Learnt)
+callees t = (
+  look-reads.Asked,
+  look-reads.Learnt,
+  put-operand-reads.Asked,
+  put-operand-reads.Learnt,
+  pack-reads.Asked,
+  pack-reads.Learnt,
+  put-operator-reads.Asked,
+  put-operator-reads.Learnt,
+  put-bytes-reads.Asked,
+  put-bytes-reads.Learnt,
+  unpack-reads.Asked,
+  unpack-reads.Learnt,
+  choose-reads.Asked,
+  choose-reads.Learnt,
+  choose-count-reads.Asked,
+  choose-count-reads.Learnt,
+  aim-reads.Asked,
+  aim-reads.Learnt,
+  size-of-reads.Asked,
+  size-of-reads.Learnt,
+  run-below t,
+  run.Post,
+  put-two-reads.Asked,
+  put-two-reads.Learnt,
+  pack-short-reads.Asked,
+  pack-short-reads.Learnt,
+)
 
 -- what a need asks, at the callees' contracts, the invariant and the measure
 abbrev Of : (run-lts.Claims → In 3 run-kinds.ps → Out 3 run-kinds.ps run-kinds.r → run-lts.InvT-loop → run-lts.MeasureT-loop → Type 0) → ℕ → Type 0
@@ -64,8 +91,11 @@ Of need t = need (callees t) (run-at t) run.Post run-Inv-loop run-μ-loop
 
 -- where the loop is
 turn-at : (t : ℕ) (c : run-lts.At-loop (callees t) (run-at t) run.Post run-Inv-loop run-μ-loop)
-    → Turn (c .before .before .before .before .before .before .args .cs .now) (c .before .before .before .before .before .before .args .globals .now) (c .before .before .before .before .before .before .args .locals .now) (c .before .before .before .before .before .before .args .by) (c .before .before .before .before .before .before .args .levels) (c .before .before .before .before .before .before .args .s) (c .before .before .before .before .before .before .args .stack .now) (c .before .before .before .before .before .before .args .out .now)
-    (c .loop .stack) (c .loop .out) (record { count = c .loop .count; tail = c .loop .tail; hints = c .loop .hints; mask = c .loop .mask; tokens = c .loop .tokens; length = c .loop .end }) (c .loop .i)
+    → let args = c .before .before .before .before .before .before .args in
+    Turn (args .cs .now) (args .globals .now) (args .locals .now) (args .by) (args .levels) (args .s) (args .stack .now) (args .out .now)
+    (c .loop .stack) (c .loop .out) (record
+    { count = c .loop .count; tail = c .loop .tail; hints = c .loop .hints; mask = c .loop .mask; tokens = c .loop .tokens; length = c .loop .end })
+    (c .loop .i)
 turn-at t c =
     record {
       same-stack = c .loop .inv .0;
@@ -79,45 +109,91 @@ turn-at t c =
 
 -- what is known once the token was looked at
 head : (t : ℕ) (c : run-lts.After-look (callees t) (run-at t) run.Post run-Inv-loop run-μ-loop)
-    → Head (c .before .before .before .before .before .before .before .args .cs .now) (c .before .before .before .before .before .before .before .args .globals .now) (c .before .before .before .before .before .before .before .args .locals .now) (c .before .before .before .before .before .before .before .args .by) (c .before .before .before .before .before .before .before .args .levels) (c .before .before .before .before .before .before .before .args .s) (c .before .before .before .before .before .before .before .args .stack .now) (c .before .before .before .before .before .before .before .args .out .now)
-    (c .before .loop .stack) (c .before .loop .out) (record { count = c .before .loop .count; tail = c .before .loop .tail; hints = c .before .loop .hints; mask = c .before .loop .mask; tokens = c .before .loop .tokens; length = c .before .loop .end }) (c .before .loop .i) (c .look .result)
+    → let args = c .before .before .before .before .before .before .before .args in
+    let loop = c .before .loop in
+    Head (args .cs .now) (args .globals .now) (args .locals .now) (args .by) (args .levels) (args .s) (args .stack .now) (args .out .now)
+    (loop .stack) (loop .out)
+    (record { count = loop .count; tail = loop .tail; hints = loop .hints; mask = loop .mask; tokens = loop .tokens; length = loop .end }) (loop .i)
+    (c .look .result)
 head t c =
-    headed (c .before .before .before .before .before .before .before .args .cs .now) (c .before .before .before .before .before .before .before .args .globals .now) (c .before .before .before .before .before .before .before .args .locals .now) (c .before .before .before .before .before .before .before .args .by) (c .before .before .before .before .before .before .before .args .levels) (c .before .before .before .before .before .before .before .args .s) (c .before .before .before .before .before .before .before .args .stack .now) (c .before .before .before .before .before .before .before .args .out .now)
-    (c .before .loop .stack) (c .before .loop .out) (record { count = c .before .loop .count; tail = c .before .loop .tail; hints = c .before .loop .hints; mask = c .before .loop .mask; tokens = c .before .loop .tokens; length = c .before .loop .end }) (c .before .loop .i) (c .look .result) (turn-at t (c .before)) (c .before .before .before .before .before .before .before .pre .1 .1) (c .look .ensures)
+    let args = c .before .before .before .before .before .before .before .args in
+    let loop = c .before .loop in
+    headed (args .cs .now) (args .globals .now) (args .locals .now) (args .by) (args .levels) (args .s) (args .stack .now) (args .out .now)
+    (loop .stack) (loop .out)
+    (record { count = loop .count; tail = loop .tail; hints = loop .hints; mask = loop .mask; tokens = loop .tokens; length = loop .end }) (loop .i)
+    (c .look .result) (turn-at t (c .before)) (c .before .before .before .before .before .before .before .pre .1 .1) (c .look .ensures)
 
 -- where a call's entry is bound: what the token asked for, what was aimed at, and that it is there
 called : (t : ℕ) (c : run-lts.After-target (callees t) (run-at t) run.Post run-Inv-loop run-μ-loop)
-    → Looked (c .before .before .before .before .before .before .before .before .before .before .before .before .before .before .before .before .before .args .cs .now) (c .before .before .before .before .before .before .before .before .before .before .before .loop .i) (c .before .before .before .before .before .before .before .before .before .before .before .before .before .before .before .before .before .args .by .budget) (length (c .before .before .before .before .before .before .before .before .before .before .before .loop .stack)) (c .before .before .before .before .before .before .before .before .before .before .before .before .before .before .before .before .before .args .by .hints) (c .before .before .before .before .before .before .before .before .before .before .before .loop .tokens) (c .before .before .before .before .before .before .before .before .before .before .before .loop .count) (c .before .before .before .before .before .before .before .before .before .before .before .loop .hints) (c .before .before .before .before .before .before .before .before .before .before .before .loop .mask) (Call (c .before .before .before .before .before .before .before .before .looked4 .given .0 .0) (c .before .before .before .before .before .before .before .before .looked4 .given .0 .1 .0))
-called t c = asks _ _ _ _ _ _ _ _ _ _ _ _ _ (head t (c .before .before .before .before .before .before .before .before .before .before)) (Call (c .before .before .before .before .before .before .before .before .looked4 .given .0 .0) (c .before .before .before .before .before .before .before .before .looked4 .given .0 .1 .0)) (c .before .before .before .before .before .before .before .before .looked4 .given .1)
+    → let loop = c .before .before .before .before .before .before .before .before .before .before .before .loop in
+    let args = c .before .before .before .before .before .before .before .before .before .before .before .before .before .before .before .before .before .args in
+    let looked4 = c .before .before .before .before .before .before .before .before .looked4 in
+    Looked (args .cs .now) (loop .i) (args .by .budget) (length (loop .stack)) (args .by .hints) (loop .tokens) (loop .count) (loop .hints)
+    (loop .mask) (Call (looked4 .given .0 .0) (looked4 .given .0 .1 .0))
+called t c =
+    let looked4 = c .before .before .before .before .before .before .before .before .looked4 in
+    asks _ _ _ _ _ _ _ _ _ _ _ _ _ (head t (c .before .before .before .before .before .before .before .before .before .before))
+    (Call (looked4 .given .0 .0) (looked4 .given .0 .1 .0)) (looked4 .given .1)
 
 aims : (t : ℕ) (c : run-lts.After-target (callees t) (run-at t) run.Post run-Inv-loop run-μ-loop)
-    → targetOf (Enter (c .target .given .0 .0) (c .target .given .0 .1 .0)) ≡ aimed (chosen (c .before .before .before .before .before .before .before .before .looked4 .given .0 .1 .0) (c .before .before .before .before .before .before .before .before .before .before .before .before .before .before .before .before .before .args .globals .now) (c .before .before .before .before .before .before .before .before .before .before .before .before .before .before .before .before .before .args .locals .now)) (chosenCount (c .before .before .before .before .before .before .before .before .looked4 .given .0 .1 .0) (c .before .before .before .before .before .before .before .before .before .before .before .before .before .before .before .before .before .args .by)) (unpackOf (getD (c .before .before .before .before .before .before .before .before .before .before .before .loop .stack) (c .before .before .before .before .before .before .before .before .before .before .before .loop .count - 1) 0)) (c .before .before .before .before .before .before .before .before .before .before .before .before .before .before .before .before .before .args .by .exact) (c .before .before .before .before .before .before .before .before .before .before .before .before .before .before .before .before .before .args .levels) (c .before .before .before .before .before .before .before .before .before .before .before .loop .tail)
-aims t c = aims-at _ _ _ _ _ _ _ _ _ _ _ (c .before .before .before .before .choose .ensures) (c .before .before .before .choose-count .ensures) (c .before .before .before .before .before .unpack .ensures) (c .target .given .1) (c .before .before .aim .ensures .0)
+    → let args = c .before .before .before .before .before .before .before .before .before .before .before .before .before .before .before .before .before .args in
+    let loop = c .before .before .before .before .before .before .before .before .before .before .before .loop in
+    let looked4 = c .before .before .before .before .before .before .before .before .looked4 in
+    targetOf (Enter (c .target .given .0 .0) (c .target .given .0 .1 .0)) ≡ aimed
+    (chosen (looked4 .given .0 .1 .0) (args .globals .now) (args .locals .now)) (chosenCount (looked4 .given .0 .1 .0) (args .by))
+    (unpackOf (getD (loop .stack) (loop .count - 1) 0)) (args .by .exact) (args .levels) (loop .tail)
+aims t c =
+    aims-at _ _ _ _ _ _ _ _ _ _ _ (c .before .before .before .before .choose .ensures) (c .before .before .before .choose-count .ensures)
+    (c .before .before .before .before .before .unpack .ensures) (c .target .given .1) (c .before .before .aim .ensures .0)
 
 within : (t : ℕ) (c : run-lts.After-target (callees t) (run-at t) run.Post run-Inv-loop run-μ-loop)
     → ((c .target .given .0 .0) ≤ (c .target .given .0 .1 .0)) × ((c .target .given .0 .1 .0) ≤ length (now (c .before .before .before .before .choose .result)))
 within t c = inside-at _ _ _ _ refl (c .target .given .1) (c .before .before .aim .ensures .1)
 
 there : (t : ℕ) (c : run-lts.After-target (callees t) (run-at t) run.Post run-Inv-loop run-μ-loop)
-    → (length (spelling charstringRows (unpackOf (getD (c .before .before .before .before .before .before .before .before .before .before .before .loop .stack) (c .before .before .before .before .before .before .before .before .before .before .before .loop .count - 1) 0))) ≤ c .before .before .before .before .before .before .before .before .before .before .before .loop .end) × ((0 < c .before .before .before .before .before .before .before .before .before .before .before .loop .tail) × (c .before .before .before .before .before .before .before .before .before .before .before .before .before .before .before .before .before .args .levels ≡ 0 → ⊥))
-there t c = index-there _ _ _ _ _ _ _ _ _ _ _ _ (head t (c .before .before .before .before .before .before .before .before .before .before) .turn) (c .before .before .before .before .before .before .before .before .looked4 .given .0 .1 .0) (c .before .before .before .before .before .before .before .before .looked4 .given .0 .0) (called t c) (c .target .given .0 .0) (c .target .given .0 .1 .0) (aims t c) _ refl (head t (c .before .before .before .before .before .before .before .before .before .before) .sound)
+    → let loop = c .before .before .before .before .before .before .before .before .before .before .before .loop in
+    (length (spelling charstringRows (unpackOf (getD (loop .stack) (loop .count - 1) 0))) ≤ loop .end) × ((0 < loop .tail) ×
+    (c .before .before .before .before .before .before .before .before .before .before .before .before .before .before .before .before .before .args .levels ≡ 0 → ⊥))
+there t c =
+    let looked4 = c .before .before .before .before .before .before .before .before .looked4 in
+    index-there _ _ _ _ _ _ _ _ _ _ _ _ (head t (c .before .before .before .before .before .before .before .before .before .before) .turn)
+    (looked4 .given .0 .1 .0) (looked4 .given .0 .0) (called t c) (c .target .given .0 .0) (c .target .given .0 .1 .0) (aims t c) _ refl
+    (head t (c .before .before .before .before .before .before .before .before .before .before) .sound)
 
-sized : (t : ℕ) (c : run-lts.After-size-of (callees t) (run-at t) run.Post run-Inv-loop run-μ-loop) → c .size-of .result ≡ length (spelling charstringRows (unpackOf (getD (c .before .before .before .before .before .before .before .before .before .before .before .before .before .loop .stack) (c .before .before .before .before .before .before .before .before .before .before .before .before .before .loop .count - 1) 0)))
+sized : (t : ℕ) (c : run-lts.After-size-of (callees t) (run-at t) run.Post run-Inv-loop run-μ-loop)
+    → let loop = c .before .before .before .before .before .before .before .before .before .before .before .before .before .loop in
+    c .size-of .result ≡ length (spelling charstringRows (unpackOf (getD (loop .stack) (loop .count - 1) 0)))
 sized t c = c .size-of .ensures ∙ ap (λ (o : Operand). length (spelling charstringRows o)) (c .before .before .before .before .before .before .before .unpack .ensures)
 
 -- what the run of the entry ensures, of the list that the call names
 ran : (t : ℕ) (c : run-lts.After-run (callees t) (run-at t) run.Post run-Inv-loop run-μ-loop)
-    → RunsTo (take (c .before .before .before .before .before .before .target .given .0 .1 .0 - c .before .before .before .before .before .before .target .given .0 .0) (drop (c .before .before .before .before .before .before .target .given .0 .0) (chosen (c .before .before .before .before .before .before .before .before .before .before .before .before .before .before .looked4 .given .0 .1 .0) (c .before .before .before .before .before .before .before .before .before .before .before .before .before .before .before .before .before .before .before .before .before .before .before .args .globals .now) (c .before .before .before .before .before .before .before .before .before .before .before .before .before .before .before .before .before .before .before .before .before .before .before .args .locals .now)))) (c .before .before .before .before .before .before .before .before .before .before .before .before .before .before .before .before .before .before .before .before .before .before .before .args .globals .now) (c .before .before .before .before .before .before .before .before .before .before .before .before .before .before .before .before .before .before .before .before .before .before .before .args .locals .now) (c .before .before .before .before .before .before .before .before .before .before .before .before .before .before .before .before .before .before .before .before .before .before .before .args .by)
-    (record { count = c .before .before .before .before .before .before .before .before .before .before .before .before .before .before .before .before .before .loop .count - 1; tail = c .before .before .before .before .before .before .before .before .before .before .before .before .before .before .before .before .before .loop .tail - 1; hints = c .before .before .before .before .before .before .before .before .before .before .before .before .before .before .before .before .before .loop .hints; mask = c .before .before .before .before .before .before .before .before .before .before .before .before .before .before .before .before .before .loop .mask; tokens = c .before .before .before .before .before .before .before .before .before .before .before .before .before .before .before .before .before .loop .tokens + 1; length = c .before .before .before .before .before .before .before .before .before .before .before .before .before .before .before .before .before .loop .end - c .before .before .before .before .size-of .result })
-    (c .before .before .before .before .before .before .before .before .before .before .before .before .before .before .before .before .before .loop .stack) (c .before .before .before .before .before .before .before .before .before .before .before .before .before .before .before .before .before .loop .out) (c .before .before .before .before .before .before .before .before .before .before .before .before .before .before .before .before .before .before .before .before .before .before .before .args .levels - 1) (c .run .result) (c .run .last .1 .1 .1 .1 .1 .0) (c .run .last .1 .1 .1 .1 .1 .1 .0)
+    → let args = c .before .before .before .before .before .before .before .before .before .before .before .before .before .before .before .before .before .before .before .before .before .before .before .args in
+    let loop = c .before .before .before .before .before .before .before .before .before .before .before .before .before .before .before .before .before .loop in
+    let target = c .before .before .before .before .before .before .target in
+    RunsTo (take (target .given .0 .1 .0 - target .given .0 .0)
+    (drop (target .given .0 .0) (chosen (c .before .before .before .before .before .before .before .before .before .before .before .before .before .before .looked4 .given .0 .1 .0) (args .globals .now) (args .locals .now))))
+    (args .globals .now) (args .locals .now) (args .by) (record
+    { count = loop .count - 1; tail = loop .tail - 1; hints = loop .hints; mask = loop .mask; tokens = loop .tokens + 1; length = loop .end - c .before .before .before .before .size-of .result })
+    (loop .stack) (loop .out) (args .levels - 1) (c .run .result) (c .run .last .1 .1 .1 .1 .1 .0) (c .run .last .1 .1 .1 .1 .1 .1 .0)
 ran t c =
-    subst (λ (l : List ℕ). RunsTo (take (c .before .before .before .before .before .before .target .given .0 .1 .0 - c .before .before .before .before .before .before .target .given .0 .0) (drop (c .before .before .before .before .before .before .target .given .0 .0) l)) (c .before .before .before .before .before .before .before .before .before .before .before .before .before .before .before .before .before .before .before .before .before .before .before .args .globals .now) (c .before .before .before .before .before .before .before .before .before .before .before .before .before .before .before .before .before .before .before .before .before .before .before .args .locals .now) (c .before .before .before .before .before .before .before .before .before .before .before .before .before .before .before .before .before .before .before .before .before .before .before .args .by)
-    (record { count = c .before .before .before .before .before .before .before .before .before .before .before .before .before .before .before .before .before .loop .count - 1; tail = c .before .before .before .before .before .before .before .before .before .before .before .before .before .before .before .before .before .loop .tail - 1; hints = c .before .before .before .before .before .before .before .before .before .before .before .before .before .before .before .before .before .loop .hints; mask = c .before .before .before .before .before .before .before .before .before .before .before .before .before .before .before .before .before .loop .mask; tokens = c .before .before .before .before .before .before .before .before .before .before .before .before .before .before .before .before .before .loop .tokens + 1; length = c .before .before .before .before .before .before .before .before .before .before .before .before .before .before .before .before .before .loop .end - c .before .before .before .before .size-of .result })
-    (c .before .before .before .before .before .before .before .before .before .before .before .before .before .before .before .before .before .loop .stack) (c .before .before .before .before .before .before .before .before .before .before .before .before .before .before .before .before .before .loop .out) (c .before .before .before .before .before .before .before .before .before .before .before .before .before .before .before .before .before .before .before .before .before .before .before .args .levels - 1) (c .run .result) (c .run .last .1 .1 .1 .1 .1 .0) (c .run .last .1 .1 .1 .1 .1 .1 .0))
+    let loop = c .before .before .before .before .before .before .before .before .before .before .before .before .before .before .before .before .before .loop in
+    let args = c .before .before .before .before .before .before .before .before .before .before .before .before .before .before .before .before .before .before .before .before .before .before .before .args in
+    let target = c .before .before .before .before .before .before .target in
+    subst (λ (l : List ℕ). RunsTo (take (target .given .0 .1 .0 - target .given .0 .0) (drop (target .given .0 .0) l)) (args .globals .now)
+    (args .locals .now) (args .by)
+    (record { count = loop .count - 1; tail = loop .tail - 1; hints = loop .hints; mask = loop .mask; tokens = loop .tokens + 1; length = loop .end - c .before .before .before .before .size-of .result })
+    (loop .stack) (loop .out) (args .levels - 1) (c .run .result) (c .run .last .1 .1 .1 .1 .1 .0) (c .run .last .1 .1 .1 .1 .1 .1 .0))
     (c .before .before .before .before .before .before .before .before .before .before .choose .ensures) (c .run .ensures)
 
 run-loop-holds : (t : ℕ) → Of run-lts.Need-loop-holds t
-run-loop-holds t c = (refl, refl, λ rules r t₀ p. begin rules (listsOf 2 (c .before .before .before .before .before .args .globals .now) (c .before .before .before .before .before .args .locals .now)) (c .before .before .before .before .before .args .cs .now) (c .before .before .before .before .before .args .by .budget) (c .before .before .before .before .before .args .levels) (c .before .before .before .before .before .args .by .stored) t₀ (c .before .before .before .before .before .args .out .now) (c .before .before .before .before .before .args .stack .now) (c .before .before .before .before .before .args .out .now) (c .before .before .before .before .before .args .s) 0 (c .before .before .before .before .before .pre .1 .0 .stored) t₀ p)
+run-loop-holds t c =
+    let args = c .before .before .before .before .before .args in (
+      refl,
+      refl,
+      λ rules r t₀ p. begin rules (listsOf 2 (args .globals .now) (args .locals .now)) (args .cs .now) (args .by .budget) (args .levels)
+          (args .by .stored) t₀ (args .out .now) (args .stack .now) (args .out .now) (args .s) 0
+          (c .before .before .before .before .before .pre .1 .0 .stored) t₀ p,
+    )
 
 run-look-requires : (t : ℕ) → Of run-lts.Need-look-requires t
 run-look-requires t c κs = let f = safe _ _ _ _ _ _ _ _ _ _ _ _ (turn-at t c) (c .before .before .before .before .before .before .pre .1 .1) in (f .hinted, omega arith)
@@ -126,76 +202,179 @@ run-enum-known-looked : (t : ℕ) → Of run-lts.Need-enum-known-looked t
 run-enum-known-looked t c = search needs
 
 run-put-operand-requires : (t : ℕ) → Of run-lts.Need-put-operand-requires t
-run-put-operand-requires t c κs = let d = head t (c .before .before .before .before) in let f = asks _ _ _ _ _ _ _ _ _ _ _ _ _ d (Push _ _) (c .before .before .looked .given .1) in omega (arith, d .safe-now, f .0)
+run-put-operand-requires t c κs =
+    let d = head t (c .before .before .before .before) in
+    let f = asks _ _ _ _ _ _ _ _ _ _ _ _ _ d (Push _ _) (c .before .before .looked .given .1) in
+    omega (arith, d .safe-now, f .0)
 
 run-pack-requires : (t : ℕ) → Of run-lts.Need-pack-requires t
 run-pack-requires t c κs = tt
 
 run-mul-stack : (t : ℕ) → Of run-lts.Need-mul-stack t
-run-mul-stack t c = let d = head t (c .before .before .before .before .before .before .before .before) in let f = asks _ _ _ _ _ _ _ _ _ _ _ _ _ d (Push _ _) (c .before .before .before .before .before .before .looked .given .1) in omega (arith, d .safe-now, f .2)
+run-mul-stack t c =
+    let d = head t (c .before .before .before .before .before .before .before .before) in
+    let f = asks _ _ _ _ _ _ _ _ _ _ _ _ _ d (Push _ _) (c .before .before .before .before .before .before .looked .given .1) in
+    omega (arith, d .safe-now, f .2)
 
 run-slice-write-stack : (t : ℕ) → Of run-lts.Need-slice-write-stack t
-run-slice-write-stack t c = let d = head t (c .before .before .before .before .before .before .before .before) in let f = asks _ _ _ _ _ _ _ _ _ _ _ _ _ d (Push _ _) (c .before .before .before .before .before .before .looked .given .1) in omega (arith, d .safe-now, f .2)
+run-slice-write-stack t c =
+    let d = head t (c .before .before .before .before .before .before .before .before) in
+    let f = asks _ _ _ _ _ _ _ _ _ _ _ _ _ d (Push _ _) (c .before .before .before .before .before .before .looked .given .1) in
+    omega (arith, d .safe-now, f .2)
 
 run-add-count : (t : ℕ) → Of run-lts.Need-add-count t
-run-add-count t c = let d = head t (c .before .before .before .before .before .before .before .before) in let f = asks _ _ _ _ _ _ _ _ _ _ _ _ _ d (Push _ _) (c .before .before .before .before .before .before .looked .given .1) in omega (arith, d .safe-now, f .2)
+run-add-count t c =
+    let d = head t (c .before .before .before .before .before .before .before .before) in
+    let f = asks _ _ _ _ _ _ _ _ _ _ _ _ _ d (Push _ _) (c .before .before .before .before .before .before .looked .given .1) in
+    omega (arith, d .safe-now, f .2)
 
 run-add-tail : (t : ℕ) → Of run-lts.Need-add-tail t
-run-add-tail t c = let d = head t (c .before .before .before .before .before .before .before .before) in let f = asks _ _ _ _ _ _ _ _ _ _ _ _ _ d (Push _ _) (c .before .before .before .before .before .before .looked .given .1) in omega (arith, d .safe-now, f .2)
+run-add-tail t c =
+    let d = head t (c .before .before .before .before .before .before .before .before) in
+    let f = asks _ _ _ _ _ _ _ _ _ _ _ _ _ d (Push _ _) (c .before .before .before .before .before .before .looked .given .1) in
+    omega (arith, d .safe-now, f .2)
 
 run-add-tokens : (t : ℕ) → Of run-lts.Need-add-tokens t
-run-add-tokens t c = let d = head t (c .before .before .before .before .before .before .before .before) in let f = asks _ _ _ _ _ _ _ _ _ _ _ _ _ d (Push _ _) (c .before .before .before .before .before .before .looked .given .1) in omega (arith, f .0 .within, c .before .before .before .before .before .before .before .before .before .before .before .before .before .before .before .good)
+run-add-tokens t c =
+    let d = head t (c .before .before .before .before .before .before .before .before) in
+    let f = asks _ _ _ _ _ _ _ _ _ _ _ _ _ d (Push _ _) (c .before .before .before .before .before .before .looked .given .1) in
+    omega (
+      arith,
+      f .0 .within,
+      c .before .before .before .before .before .before .before .before .before .before .before .before .before .before .before .good,
+    )
 
 run-loop-less : (t : ℕ) → Of run-lts.Need-loop-less t
-run-loop-less t c = let d = head t (c .before .before .before .before .before .before .before .before) in let f = asks _ _ _ _ _ _ _ _ _ _ _ _ _ d (Push _ _) (c .before .before .before .before .before .before .looked .given .1) in omega (arith, f .0)
+run-loop-less t c =
+    let d = head t (c .before .before .before .before .before .before .before .before) in
+    let f = asks _ _ _ _ _ _ _ _ _ _ _ _ _ d (Push _ _) (c .before .before .before .before .before .before .looked .given .1) in
+    omega (arith, f .0)
 
 run-loop-again : (t : ℕ) → Of run-lts.Need-loop-again t
-run-loop-again t c = let d = head t (c .before .before .before .before .before .before .before .before) in let f = asks _ _ _ _ _ _ _ _ _ _ _ _ _ d (Push _ _) (c .before .before .before .before .before .before .looked .given .1) in (length-set {A = ℕ} (c .before .before .before .before .before .before .before .before .before .loop .stack) (c .before .before .before .before .before .before .before .before .before .loop .count) (c .pack .result) ∙ c .before .before .before .before .before .before .before .before .before .loop .inv .0, c .before .before .before .put-operand .kept .0 ∙ c .before .before .before .before .before .before .before .before .before .loop .inv .1, arm-push _ _ _ _ _ _ _ _ _ _ _ _ (d .turn) _ _ (c .pack .result) _ _ f (c .pack .ensures) (c .before .before .before .put-operand .ensures .1) (c .before .before .before .put-operand .ensures .0))
+run-loop-again t c =
+    let loop = c .before .before .before .before .before .before .before .before .before .loop in
+    let put-operand = c .before .before .before .put-operand in
+    let d = head t (c .before .before .before .before .before .before .before .before) in
+    let f = asks _ _ _ _ _ _ _ _ _ _ _ _ _ d (Push _ _) (c .before .before .before .before .before .before .looked .given .1) in (
+      length-set {A = ℕ} (loop .stack) (loop .count) (c .pack .result) ∙ loop .inv .0,
+      put-operand .kept .0 ∙ loop .inv .1,
+      arm-push _ _ _ _ _ _ _ _ _
+          _ _ _ (d .turn) _ _ (c .pack .result) _ _ f (c .pack .ensures) (put-operand .ensures .1) (put-operand .ensures .0),
+    )
 
 run-enum-known-looked-2 : (t : ℕ) → Of run-lts.Need-enum-known-looked-2 t
 run-enum-known-looked-2 t c = search needs
 
 run-put-operator-requires : (t : ℕ) → Of run-lts.Need-put-operator-requires t
-run-put-operator-requires t c κs = let d = head t (c .before .before .before .before) in let f = asks _ _ _ _ _ _ _ _ _ _ _ _ _ d (Plain _ _ _) (c .before .before .looked2 .given .1) in omega (arith, d .safe-now, f .0 .begun)
+run-put-operator-requires t c κs =
+    let d = head t (c .before .before .before .before) in
+    let f = asks _ _ _ _ _ _ _ _ _ _ _ _ _ d (Plain _ _ _) (c .before .before .looked2 .given .1) in
+    omega (arith, d .safe-now, f .0 .begun)
 
 run-add-tokens-2 : (t : ℕ) → Of run-lts.Need-add-tokens-2 t
-run-add-tokens-2 t c = let d = head t (c .before .before .before .before .before .before .before) in let f = asks _ _ _ _ _ _ _ _ _ _ _ _ _ d (Plain _ _ _) (c .before .before .before .before .before .looked2 .given .1) in omega (arith, f .0 .begun)
+run-add-tokens-2 t c =
+    let d = head t (c .before .before .before .before .before .before .before) in
+    let f = asks _ _ _ _ _ _ _ _ _ _ _ _ _ d (Plain _ _ _) (c .before .before .before .before .before .looked2 .given .1) in
+    omega (arith, f .0 .begun)
 
 run-loop-less-2 : (t : ℕ) → Of run-lts.Need-loop-less-2 t
-run-loop-less-2 t c = let d = head t (c .before .before .before .before .before .before .before) in let f = asks _ _ _ _ _ _ _ _ _ _ _ _ _ d (Plain _ _ _) (c .before .before .before .before .before .looked2 .given .1) in omega (arith, f .0 .begun)
+run-loop-less-2 t c =
+    let d = head t (c .before .before .before .before .before .before .before) in
+    let f = asks _ _ _ _ _ _ _ _ _ _ _ _ _ d (Plain _ _ _) (c .before .before .before .before .before .looked2 .given .1) in
+    omega (arith, f .0 .begun)
 
 run-loop-again-2 : (t : ℕ) → Of run-lts.Need-loop-again-2 t
-run-loop-again-2 t c = let d = head t (c .before .before .before .before .before .before .before) in let f = asks _ _ _ _ _ _ _ _ _ _ _ _ _ d (Plain _ _ _) (c .before .before .before .before .before .looked2 .given .1) in (c .before .before .before .before .before .before .before .before .loop .inv .0, c .before .before .put-operator .kept .0 ∙ c .before .before .before .before .before .before .before .before .loop .inv .1, arm-plain _ _ _ _ _ _ _ _ _ _ _ _ (d .turn) _ _ _ _ _ f (c .before .before .put-operator .ensures .1) (c .before .before .put-operator .ensures .0))
+run-loop-again-2 t c =
+    let loop = c .before .before .before .before .before .before .before .before .loop in
+    let put-operator = c .before .before .put-operator in
+    let d = head t (c .before .before .before .before .before .before .before) in
+    let f = asks _ _ _ _ _ _ _ _ _ _ _ _ _ d (Plain _ _ _) (c .before .before .before .before .before .looked2 .given .1) in (
+      loop .inv .0,
+      put-operator .kept .0 ∙ loop .inv .1,
+      arm-plain _ _ _ _ _ _ _ _ _ _ _ _ (d .turn) _ _ _ _ _ f (put-operator .ensures .1)
+          (put-operator .ensures .0),
+    )
 
 run-enum-known-looked-3 : (t : ℕ) → Of run-lts.Need-enum-known-looked-3 t
 run-enum-known-looked-3 t c = search needs
 
 run-put-operator-requires-2 : (t : ℕ) → Of run-lts.Need-put-operator-requires-2 t
-run-put-operator-requires-2 t c κs = let d = head t (c .before .before .before .before) in let f = asks _ _ _ _ _ _ _ _ _ _ _ _ _ d (Mask _ _ _ _ _) (c .before .before .looked3 .given .1) in omega (arith, d .safe-now, f .0 .begun)
+run-put-operator-requires-2 t c κs =
+    let d = head t (c .before .before .before .before) in
+    let f = asks _ _ _ _ _ _ _ _ _ _ _ _ _ d (Mask _ _ _ _ _) (c .before .before .looked3 .given .1) in
+    omega (arith, d .safe-now, f .0 .begun)
 
 run-sub-put-bytes : (t : ℕ) → Of run-lts.Need-sub-put-bytes t
-run-sub-put-bytes t c = let d = head t (c .before .before .before .before .before .before .before .before) in let f = asks _ _ _ _ _ _ _ _ _ _ _ _ _ d (Mask _ _ _ _ _) (c .before .before .before .before .before .before .looked3 .given .1) in omega (arith, f .3)
+run-sub-put-bytes t c =
+    let d = head t (c .before .before .before .before .before .before .before .before) in
+    let f = asks _ _ _ _ _ _ _ _ _ _ _ _ _ d (Mask _ _ _ _ _) (c .before .before .before .before .before .before .looked3 .given .1) in
+    omega (arith, f .3)
 
 run-part-put-bytes-start : (t : ℕ) → Of run-lts.Need-part-put-bytes-start t
-run-part-put-bytes-start t c = let d = head t (c .before .before .before .before .before .before .before .before) in let f = asks _ _ _ _ _ _ _ _ _ _ _ _ _ d (Mask _ _ _ _ _) (c .before .before .before .before .before .before .looked3 .given .1) in omega (arith, f .3, f .4)
+run-part-put-bytes-start t c =
+    let d = head t (c .before .before .before .before .before .before .before .before) in
+    let f = asks _ _ _ _ _ _ _ _ _ _ _ _ _ d (Mask _ _ _ _ _) (c .before .before .before .before .before .before .looked3 .given .1) in
+    omega (arith, f .3, f .4)
 
 run-part-put-bytes-end : (t : ℕ) → Of run-lts.Need-part-put-bytes-end t
-run-part-put-bytes-end t c = let d = head t (c .before .before .before .before .before .before .before .before) in let f = asks _ _ _ _ _ _ _ _ _ _ _ _ _ d (Mask _ _ _ _ _) (c .before .before .before .before .before .before .looked3 .given .1) in omega (arith, f .3, f .4)
+run-part-put-bytes-end t c =
+    let d = head t (c .before .before .before .before .before .before .before .before) in
+    let f = asks _ _ _ _ _ _ _ _ _ _ _ _ _ d (Mask _ _ _ _ _) (c .before .before .before .before .before .before .looked3 .given .1) in
+    omega (arith, f .3, f .4)
 
 run-put-bytes-requires : (t : ℕ) → Of run-lts.Need-put-bytes-requires t
-run-put-bytes-requires t c κs = let d = head t (c .before .before .before .before .before .before .before .before .before) in let f = asks _ _ _ _ _ _ _ _ _ _ _ _ _ d (Mask _ _ _ _ _) (c .before .before .before .before .before .before .before .looked3 .given .1) in let k = c .before .before .before .before .put-operator2 .kept .0 in let e = c .before .before .before .before .put-operator2 .ensures .0 in let w = operator-two (c .before .before .before .before .before .before .before .looked3 .given .0 .1 .1 .1 .1 .0) in (let z = d .safe-now .stored in omega arith, omega (arith, d .safe-now .small, f .0 .begun .within, c .before .before .before .before .before .before .before .before .before .before .before .before .before .before .before .before .good))
+run-put-bytes-requires t c κs =
+    let looked3 = c .before .before .before .before .before .before .before .looked3 in
+    let put-operator2 = c .before .before .before .before .put-operator2 in
+    let d = head t (c .before .before .before .before .before .before .before .before .before) in
+    let f = asks _ _ _ _ _ _ _ _ _ _ _ _ _ d (Mask _ _ _ _ _) (looked3 .given .1) in
+    let k = put-operator2 .kept .0 in
+    let e = put-operator2 .ensures .0 in
+    let w = operator-two (looked3 .given .0 .1 .1 .1 .1 .0) in (
+      let z = d .safe-now .stored in omega arith,
+      omega
+          (arith, d .safe-now .small, f .0 .begun .within, c .before .before .before .before .before .before .before .before .before .before .before .before .before .before .before .before .good),
+    )
 
 run-sub-mask : (t : ℕ) → Of run-lts.Need-sub-mask t
-run-sub-mask t c = let d = head t (c .before .before .before .before .before .before .before .before .before .before .before .before) in let f = asks _ _ _ _ _ _ _ _ _ _ _ _ _ d (Mask _ _ _ _ _) (c .before .before .before .before .before .before .before .before .before .before .looked3 .given .1) in omega (arith, f .3)
+run-sub-mask t c =
+    let d = head t (c .before .before .before .before .before .before .before .before .before .before .before .before) in
+    let f = asks _ _ _ _ _ _ _ _ _ _ _ _ _ d (Mask _ _ _ _ _)
+    (c .before .before .before .before .before .before .before .before .before .before .looked3 .given .1) in
+    omega (arith, f .3)
 
 run-add-tokens-3 : (t : ℕ) → Of run-lts.Need-add-tokens-3 t
-run-add-tokens-3 t c = let d = head t (c .before .before .before .before .before .before .before .before .before .before .before .before) in let f = asks _ _ _ _ _ _ _ _ _ _ _ _ _ d (Mask _ _ _ _ _) (c .before .before .before .before .before .before .before .before .before .before .looked3 .given .1) in omega (arith, f .0 .begun .within, c .before .before .before .before .before .before .before .before .before .before .before .before .before .before .before .before .before .before .before .good)
+run-add-tokens-3 t c =
+    let d = head t (c .before .before .before .before .before .before .before .before .before .before .before .before) in
+    let f = asks _ _ _ _ _ _ _ _ _ _ _ _ _ d (Mask _ _ _ _ _)
+    (c .before .before .before .before .before .before .before .before .before .before .looked3 .given .1) in
+    omega (
+      arith,
+      f .0 .begun .within,
+      c .before .before .before .before .before .before .before .before .before .before .before .before .before .before .before .before .before .before .before .good,
+    )
 
 run-loop-less-3 : (t : ℕ) → Of run-lts.Need-loop-less-3 t
-run-loop-less-3 t c = let d = head t (c .before .before .before .before .before .before .before .before .before .before .before .before) in let f = asks _ _ _ _ _ _ _ _ _ _ _ _ _ d (Mask _ _ _ _ _) (c .before .before .before .before .before .before .before .before .before .before .looked3 .given .1) in omega (arith, f .0 .begun, f .3, f .4)
+run-loop-less-3 t c =
+    let d = head t (c .before .before .before .before .before .before .before .before .before .before .before .before) in
+    let f = asks _ _ _ _ _ _ _ _ _ _ _ _ _ d (Mask _ _ _ _ _)
+    (c .before .before .before .before .before .before .before .before .before .before .looked3 .given .1) in
+    omega (arith, f .0 .begun, f .3, f .4)
 
 run-loop-again-3 : (t : ℕ) → Of run-lts.Need-loop-again-3 t
-run-loop-again-3 t c = let d = head t (c .before .before .before .before .before .before .before .before .before .before .before .before) in let f = asks _ _ _ _ _ _ _ _ _ _ _ _ _ d (Mask _ _ _ _ _) (c .before .before .before .before .before .before .before .before .before .before .looked3 .given .1) in (c .before .before .before .before .before .before .before .before .before .before .before .before .before .loop .inv .0, c .before .before .put-bytes .kept .0 ∙ c .before .before .before .before .before .before .before .put-operator2 .kept .0 ∙ c .before .before .before .before .before .before .before .before .before .before .before .before .before .loop .inv .1, arm-mask _ _ _ _ _ _ _ _ _ _ _ _ (d .turn) _ _ _ _ _ _ _ _ _ f (c .before .before .before .before .before .before .before .put-operator2 .ensures .1) (c .before .before .before .before .before .before .before .put-operator2 .ensures .0) (c .before .before .put-bytes .ensures .1) (c .before .before .put-bytes .ensures .0 ∙ ap (λ (n : ℕ). c .before .before .before .before .before .before .before .put-operator2 .result + n) (part-long (c .before .before .before .before .before .before .before .before .before .before .before .before .before .before .before .before .before .before .before .args .cs .now) (c .before .before .before .before .before .before .before .before .before .before .looked3 .given .0 .0) (c .before .before .before .before .before .before .before .before .before .before .looked3 .given .0 .1 .0) (f .3) (f .4))))
+run-loop-again-3 t c =
+    let put-operator2 = c .before .before .before .before .before .before .before .put-operator2 in
+    let looked3 = c .before .before .before .before .before .before .before .before .before .before .looked3 in
+    let loop = c .before .before .before .before .before .before .before .before .before .before .before .before .before .loop in
+    let put-bytes = c .before .before .put-bytes in
+    let d = head t (c .before .before .before .before .before .before .before .before .before .before .before .before) in
+    let f = asks _ _ _ _ _ _ _ _ _ _ _ _ _ d (Mask _ _ _ _ _) (looked3 .given .1) in (
+      loop .inv .0,
+      put-bytes .kept .0 ∙ put-operator2 .kept .0 ∙ loop .inv .1,
+      arm-mask _ _ _ _ _ _ _ _ _ _ _ _ (d .turn) _ _ _ _ _ _ _ _ _ f
+          (put-operator2 .ensures .1) (put-operator2 .ensures .0) (put-bytes .ensures .1)
+          (put-bytes .ensures .0 ∙ ap (λ (n : ℕ). put-operator2 .result + n) (part-long (c .before .before .before .before .before .before .before .before .before .before .before .before .before .before .before .before .before .before .before .args .cs .now) (looked3 .given .0 .0) (looked3 .given .0 .1 .0) (f .3) (f .4))),
+    )
 
 run-enum-known-looked-4 : (t : ℕ) → Of run-lts.Need-enum-known-looked-4 t
 run-enum-known-looked-4 t c = search needs
@@ -207,7 +386,10 @@ run-mul-unpack : (t : ℕ) → Of run-lts.Need-mul-unpack t
 run-mul-unpack t c = let d = head t (c .before .before .before) in let f = asks _ _ _ _ _ _ _ _ _ _ _ _ _ d (Call _ _) (c .before .looked4 .given .1) in omega (arith, f .3, d .safe-now)
 
 run-slice-read-unpack : (t : ℕ) → Of run-lts.Need-slice-read-unpack t
-run-slice-read-unpack t c = let d = head t (c .before .before .before .before) in let f = asks _ _ _ _ _ _ _ _ _ _ _ _ _ d (Call _ _) (c .before .before .looked4 .given .1) in omega (arith, f .3, d .safe-now)
+run-slice-read-unpack t c =
+    let d = head t (c .before .before .before .before) in
+    let f = asks _ _ _ _ _ _ _ _ _ _ _ _ _ d (Call _ _) (c .before .before .looked4 .given .1) in
+    omega (arith, f .3, d .safe-now)
 
 run-unpack-requires : (t : ℕ) → Of run-lts.Need-unpack-requires t
 run-unpack-requires t c κs = tt
@@ -231,13 +413,23 @@ run-sub-t74 : (t : ℕ) → Of run-lts.Need-sub-t74 t
 run-sub-t74 t c = let f = there t (c .before) in omega (arith, f .1 .0)
 
 run-add-run : (t : ℕ) → Of run-lts.Need-add-run t
-run-add-run t c = let f = called t (c .before) in omega (arith, f .1 .begun .within, c .before .before .before .before .before .before .before .before .before .before .before .before .before .before .before .before .before .before .good)
+run-add-run t c =
+    let f = called t (c .before) in
+    omega (
+      arith,
+      f .1 .begun .within,
+      c .before .before .before .before .before .before .before .before .before .before .before .before .before .before .before .before .before .before .good,
+    )
 
 run-size-of-requires : (t : ℕ) → Of run-lts.Need-size-of-requires t
 run-size-of-requires t c κs = tt
 
 run-sub-t77 : (t : ℕ) → Of run-lts.Need-sub-t77 t
-run-sub-t77 t c = let f = there t (c .before .before) .0 in let e = c .size-of .ensures ∙ ap (λ (o : Operand). length (spelling charstringRows o)) (c .before .before .before .before .before .before .before .unpack .ensures) in omega arith
+run-sub-t77 t c =
+    let f = there t (c .before .before) .0 in
+    let e = c .size-of .ensures ∙ ap (λ (o : Operand). length (spelling charstringRows o))
+    (c .before .before .before .before .before .before .before .unpack .ensures) in
+    omega arith
 
 run-sub-body-2 : (t : ℕ) → Of run-lts.Need-sub-body-2 t
 run-sub-body-2 t c = within t (c .before .before) .0
@@ -252,42 +444,103 @@ run-sub-run : (t : ℕ) → Of run-lts.Need-sub-run t
 run-sub-run t c = let n = there t (c .before .before .before .before .before) .1 .1 in omega arith
 
 run-run-requires : (t : ℕ) → Of run-lts.Need-run-requires t
-run-run-requires t c κs = let d = head t (c .before .before .before .before .before .before .before .before .before .before .before .before .before .before .before) in let n = there t (c .before .before .before .before .before) .1 .1 in let z = c .before .before .before .before .before .before .before .before .before .before .before .before .before .before .before .before .before .before .before .before .before .before .pre .0 in (omega arith, (setting-now _ _ _ _ _ _ _ _ _ _ _ _ (d .turn), inside-sound _ _ _ _ _ _ _ _ _ _ _ _ (d .turn) (c .before .before .before .before .before .before .before .before .before .before .before .before .before .looked4 .given .0 .1 .0) (c .before .before .before .before .before .before .before .before .before .before .before .before .before .looked4 .given .0 .0) (called t (c .before .before .before .before .before)) (c .before .before .before .before .before .target .given .0 .0) (c .before .before .before .before .before .target .given .0 .1 .0) (aims t (c .before .before .before .before .before)) (c .before .before .before .size-of .result) (sized t (c .before .before .before)) (d .sound)))
+run-run-requires t c κs =
+    let looked4 = c .before .before .before .before .before .before .before .before .before .before .before .before .before .looked4 in
+    let target = c .before .before .before .before .before .target in
+    let d = head t (c .before .before .before .before .before .before .before .before .before .before .before .before .before .before .before) in
+    let n = there t (c .before .before .before .before .before) .1 .1 in
+    let z =
+    c .before .before .before .before .before .before .before .before .before .before .before .before .before .before .before .before .before .before .before .before .before .before .pre .0
+    in (
+      omega arith,
+      (setting-now _ _ _ _ _ _ _ _ _ _ _ _ (d .turn), inside-sound _ _ _ _ _ _ _ _ _ _ _ _ (d .turn) (looked4 .given .0 .1 .0) (looked4 .given .0 .0) (called t (c .before .before .before .before .before)) (target .given .0 .0) (target .given .0 .1 .0) (aims t (c .before .before .before .before .before)) (c .before .before .before .size-of .result) (sized t (c .before .before .before)) (d .sound)),
+    )
 
 run-enum-told : (t : ℕ) → Of run-lts.Need-enum-told t
 run-enum-told t c = search needs
 
 run-loop-less-4 : (t : ℕ) → Of run-lts.Need-loop-less-4 t
-run-loop-less-4 t c = let f = called t (c .before .before .before .before .before .before .before .before .before .before .before .before .before) in omega (arith, f .1 .begun .ahead, f .1 .begun .inside)
+run-loop-less-4 t c =
+    let f = called t (c .before .before .before .before .before .before .before .before .before .before .before .before .before) in
+    omega (arith, f .1 .begun .ahead, f .1 .begun .inside)
 
 run-loop-again-4 : (t : ℕ) → Of run-lts.Need-loop-again-4 t
-run-loop-again-4 t c = let d = head t (c .before .before .before .before .before .before .before .before .before .before .before .before .before .before .before .before .before .before .before .before .before .before .before) in (c .before .before .before .before .before .before .before .run .kept .1 .1 .1 .1 .1 .0 ∙ c .before .before .before .before .before .before .before .before .before .before .before .before .before .before .before .before .before .before .before .before .before .before .before .before .loop .inv .0, c .before .before .before .before .before .before .before .run .kept .1 .1 .1 .1 .1 .1 .0 ∙ c .before .before .before .before .before .before .before .before .before .before .before .before .before .before .before .before .before .before .before .before .before .before .before .before .loop .inv .1, arm-back _ _ _ _ _ _ _ _ _ _ _ _ (d .turn) (c .before .before .before .before .before .before .before .before .before .before .before .before .before .before .before .before .before .before .before .before .before .looked4 .given .0 .1 .0) (c .before .before .before .before .before .before .before .before .before .before .before .before .before .before .before .before .before .before .before .before .before .looked4 .given .0 .0) (called t (c .before .before .before .before .before .before .before .before .before .before .before .before .before)) (c .before .before .before .before .before .before .before .before .before .before .before .before .before .target .given .0 .0) (c .before .before .before .before .before .before .before .before .before .before .before .before .before .target .given .0 .1 .0) (aims t (c .before .before .before .before .before .before .before .before .before .before .before .before .before)) (c .before .before .before .before .before .before .before .before .before .before .before .size-of .result) (sized t (c .before .before .before .before .before .before .before .before .before .before .before)) (c .before .before .before .before .before .before .before .run .result) _ _ (ran t (c .before .before .before .before .before .before .before)) (c .before .enum-told .given .1))
+run-loop-again-4 t c =
+    let loop = c .before .before .before .before .before .before .before .before .before .before .before .before .before .before .before .before .before .before .before .before .before .before .before .before .loop in
+    let looked4 = c .before .before .before .before .before .before .before .before .before .before .before .before .before .before .before .before .before .before .before .before .before .looked4 in
+    let target = c .before .before .before .before .before .before .before .before .before .before .before .before .before .target in
+    let run = c .before .before .before .before .before .before .before .run in
+    let d = head t
+    (c .before .before .before .before .before .before .before .before .before .before .before .before .before .before .before .before .before .before .before .before .before .before .before)
+    in (
+      run .kept .1 .1 .1 .1 .1 .0 ∙ loop .inv .0,
+      run .kept .1 .1 .1 .1 .1 .1 .0 ∙ loop .inv .1,
+      arm-back _ _ _ _ _ _ _ _ _ _ _ _ (d .turn)
+          (looked4 .given .0 .1 .0) (looked4 .given .0 .0)
+          (called t (c .before .before .before .before .before .before .before .before .before .before .before .before .before)) (target .given .0 .0)
+          (target .given .0 .1 .0) (aims t (c .before .before .before .before .before .before .before .before .before .before .before .before .before))
+          (c .before .before .before .before .before .before .before .before .before .before .before .size-of .result)
+          (sized t (c .before .before .before .before .before .before .before .before .before .before .before)) (run .result) _ _
+          (ran t (c .before .before .before .before .before .before .before)) (c .before .enum-told .given .1),
+    )
 
 run-enum-told-2 : (t : ℕ) → Of run-lts.Need-enum-told-2 t
 run-enum-told-2 t c = search needs
 
 run-same-length : (t : ℕ) → Of run-lts.Need-same-length t
-run-same-length t c = c .before .before .before .before .before .before .run .kept .1 .1 .1 .1 .1 .0 ∙ c .before .before .before .before .before .before .before .before .before .before .before .before .before .before .before .before .before .before .before .before .before .before .before .loop .inv .0
+run-same-length t c =
+    c .before .before .before .before .before .before .run .kept .1 .1 .1 .1 .1 .0 ∙
+    c .before .before .before .before .before .before .before .before .before .before .before .before .before .before .before .before .before .before .before .before .before .before .before .loop .inv .0
 
 run-same-length-2 : (t : ℕ) → Of run-lts.Need-same-length-2 t
-run-same-length-2 t c = c .before .before .before .before .before .before .run .kept .1 .1 .1 .1 .1 .1 .0 ∙ c .before .before .before .before .before .before .before .before .before .before .before .before .before .before .before .before .before .before .before .before .before .before .before .loop .inv .1
+run-same-length-2 t c =
+    c .before .before .before .before .before .before .run .kept .1 .1 .1 .1 .1 .1 .0 ∙
+    c .before .before .before .before .before .before .before .before .before .before .before .before .before .before .before .before .before .before .before .before .before .before .before .loop .inv .1
 
 run-returns : (t : ℕ) → Of run-lts.Need-returns t
 unfolding RunsTo
-run-returns t c = let d = head t (c .before .before .before .before .before .before .before .before .before .before .before .before .before .before .before .before .before .before .before .before .before .before) in arm-passed _ _ _ _ _ _ _ _ _ _ _ _ (d .turn) (c .before .before .before .before .before .before .before .before .before .before .before .before .before .before .before .before .before .before .before .before .looked4 .given .0 .1 .0) (c .before .before .before .before .before .before .before .before .before .before .before .before .before .before .before .before .before .before .before .before .looked4 .given .0 .0) (called t (c .before .before .before .before .before .before .before .before .before .before .before .before)) (c .before .before .before .before .before .before .before .before .before .before .before .before .target .given .0 .0) (c .before .before .before .before .before .before .before .before .before .before .before .before .target .given .0 .1 .0) (aims t (c .before .before .before .before .before .before .before .before .before .before .before .before)) (c .before .before .before .before .before .before .before .before .before .before .size-of .result) (sized t (c .before .before .before .before .before .before .before .before .before .before)) (c .before .before .before .before .before .before .run .result) _ _ (ran t (c .before .before .before .before .before .before)) (ended-goes _ (c .enum-told2 .given .1))
+run-returns t c =
+    let looked4 = c .before .before .before .before .before .before .before .before .before .before .before .before .before .before .before .before .before .before .before .before .looked4 in
+    let target = c .before .before .before .before .before .before .before .before .before .before .before .before .target in
+    let d = head t
+    (c .before .before .before .before .before .before .before .before .before .before .before .before .before .before .before .before .before .before .before .before .before .before)
+    in
+    arm-passed _ _ _ _ _ _ _ _ _ _ _ _ (d .turn) (looked4 .given .0 .1 .0) (looked4 .given .0 .0)
+    (called t (c .before .before .before .before .before .before .before .before .before .before .before .before)) (target .given .0 .0)
+    (target .given .0 .1 .0) (aims t (c .before .before .before .before .before .before .before .before .before .before .before .before))
+    (c .before .before .before .before .before .before .before .before .before .before .size-of .result)
+    (sized t (c .before .before .before .before .before .before .before .before .before .before))
+    (c .before .before .before .before .before .before .run .result) _ _ (ran t (c .before .before .before .before .before .before))
+    (ended-goes _ (c .enum-told2 .given .1))
 
 run-enum-told-3 : (t : ℕ) → Of run-lts.Need-enum-told-3 t
 run-enum-told-3 t c = search needs
 
 run-same-length-3 : (t : ℕ) → Of run-lts.Need-same-length-3 t
-run-same-length-3 t c = c .before .before .before .before .before .before .run .kept .1 .1 .1 .1 .1 .0 ∙ c .before .before .before .before .before .before .before .before .before .before .before .before .before .before .before .before .before .before .before .before .before .before .before .loop .inv .0
+run-same-length-3 t c =
+    c .before .before .before .before .before .before .run .kept .1 .1 .1 .1 .1 .0 ∙
+    c .before .before .before .before .before .before .before .before .before .before .before .before .before .before .before .before .before .before .before .before .before .before .before .loop .inv .0
 
 run-same-length-4 : (t : ℕ) → Of run-lts.Need-same-length-4 t
-run-same-length-4 t c = c .before .before .before .before .before .before .run .kept .1 .1 .1 .1 .1 .1 .0 ∙ c .before .before .before .before .before .before .before .before .before .before .before .before .before .before .before .before .before .before .before .before .before .before .before .loop .inv .1
+run-same-length-4 t c =
+    c .before .before .before .before .before .before .run .kept .1 .1 .1 .1 .1 .1 .0 ∙
+    c .before .before .before .before .before .before .before .before .before .before .before .before .before .before .before .before .before .before .before .before .before .before .before .loop .inv .1
 
 run-returns-2 : (t : ℕ) → Of run-lts.Need-returns-2 t
 unfolding RunsTo
-run-returns-2 t c = let d = head t (c .before .before .before .before .before .before .before .before .before .before .before .before .before .before .before .before .before .before .before .before .before .before) in arm-passed _ _ _ _ _ _ _ _ _ _ _ _ (d .turn) (c .before .before .before .before .before .before .before .before .before .before .before .before .before .before .before .before .before .before .before .before .looked4 .given .0 .1 .0) (c .before .before .before .before .before .before .before .before .before .before .before .before .before .before .before .before .before .before .before .before .looked4 .given .0 .0) (called t (c .before .before .before .before .before .before .before .before .before .before .before .before)) (c .before .before .before .before .before .before .before .before .before .before .before .before .target .given .0 .0) (c .before .before .before .before .before .before .before .before .before .before .before .before .target .given .0 .1 .0) (aims t (c .before .before .before .before .before .before .before .before .before .before .before .before)) (c .before .before .before .before .before .before .before .before .before .before .size-of .result) (sized t (c .before .before .before .before .before .before .before .before .before .before)) (c .before .before .before .before .before .before .run .result) _ _ (ran t (c .before .before .before .before .before .before)) (refused-goes _ _ (c .enum-told3 .given .1))
+run-returns-2 t c =
+    let looked4 = c .before .before .before .before .before .before .before .before .before .before .before .before .before .before .before .before .before .before .before .before .looked4 in
+    let target = c .before .before .before .before .before .before .before .before .before .before .before .before .target in
+    let d = head t
+    (c .before .before .before .before .before .before .before .before .before .before .before .before .before .before .before .before .before .before .before .before .before .before)
+    in
+    arm-passed _ _ _ _ _ _ _ _ _ _ _ _ (d .turn) (looked4 .given .0 .1 .0) (looked4 .given .0 .0)
+    (called t (c .before .before .before .before .before .before .before .before .before .before .before .before)) (target .given .0 .0)
+    (target .given .0 .1 .0) (aims t (c .before .before .before .before .before .before .before .before .before .before .before .before))
+    (c .before .before .before .before .before .before .before .before .before .before .size-of .result)
+    (sized t (c .before .before .before .before .before .before .before .before .before .before))
+    (c .before .before .before .before .before .before .run .result) _ _ (ran t (c .before .before .before .before .before .before))
+    (refused-goes _ _ (c .enum-told3 .given .1))
 
 run-enum-known-target-2 : (t : ℕ) → Of run-lts.Need-enum-known-target-2 t
 run-enum-known-target-2 t c = search needs
@@ -300,7 +553,14 @@ run-same-length-6 t c = c .before .before .before .before .before .before .befor
 
 run-returns-3 : (t : ℕ) → Of run-lts.Need-returns-3 t
 unfolding RunsTo
-run-returns-3 t c = let d = head t (c .before .before .before .before .before .before .before .before .before .before .before) in let f = asks _ _ _ _ _ _ _ _ _ _ _ _ _ d (Call _ _) (c .before .before .before .before .before .before .before .before .before .looked4 .given .1) in arm-no _ _ _ _ _ _ _ _ _ _ _ _ (d .turn) (c .before .before .before .before .before .before .before .before .before .looked4 .given .0 .1 .0) (c .before .before .before .before .before .before .before .before .before .looked4 .given .0 .0) f (c .before .target2 .given .0 .0) (aims-at _ _ _ _ _ _ _ _ _ _ _ (c .before .before .before .before .before .choose .ensures) (c .before .before .before .before .choose-count .ensures) (c .before .before .before .before .before .before .unpack .ensures) (c .before .target2 .given .1) (c .before .before .before .aim .ensures .0))
+run-returns-3 t c =
+    let looked4 = c .before .before .before .before .before .before .before .before .before .looked4 in
+    let target2 = c .before .target2 in
+    let d = head t (c .before .before .before .before .before .before .before .before .before .before .before) in
+    let f = asks _ _ _ _ _ _ _ _ _ _ _ _ _ d (Call _ _) (looked4 .given .1) in
+    arm-no _ _ _ _ _ _ _ _ _ _ _ _ (d .turn) (looked4 .given .0 .1 .0) (looked4 .given .0 .0) f (target2 .given .0 .0) (aims-at _ _ _ _ _ _ _ _ _ _ _
+    (c .before .before .before .before .before .choose .ensures) (c .before .before .before .before .choose-count .ensures)
+    (c .before .before .before .before .before .before .unpack .ensures) (target2 .given .1) (c .before .before .before .aim .ensures .0))
 
 run-enum-told-4 : (t : ℕ) → Of run-lts.Need-enum-told-4 t
 run-enum-told-4 t c = search needs
@@ -322,10 +582,16 @@ run-enum-known-looked-5 : (t : ℕ) → Of run-lts.Need-enum-known-looked-5 t
 run-enum-known-looked-5 t c = search needs
 
 run-put-operator-requires-3 : (t : ℕ) → Of run-lts.Need-put-operator-requires-3 t
-run-put-operator-requires-3 t c κs = let d = head t (c .before .before .before .before) in let f = asks _ _ _ _ _ _ _ _ _ _ _ _ _ d (End _) (c .before .before .looked5 .given .1) in omega (arith, d .safe-now, f .1 .begun)
+run-put-operator-requires-3 t c κs =
+    let d = head t (c .before .before .before .before) in
+    let f = asks _ _ _ _ _ _ _ _ _ _ _ _ _ d (End _) (c .before .before .looked5 .given .1) in
+    omega (arith, d .safe-now, f .1 .begun)
 
 run-add-t89 : (t : ℕ) → Of run-lts.Need-add-t89 t
-run-add-t89 t c = let d = head t (c .before .before .before .before .before .before .before) in let f = asks _ _ _ _ _ _ _ _ _ _ _ _ _ d (End _) (c .before .before .before .before .before .looked5 .given .1) in omega (arith, f .1 .begun)
+run-add-t89 t c =
+    let d = head t (c .before .before .before .before .before .before .before) in
+    let f = asks _ _ _ _ _ _ _ _ _ _ _ _ _ d (End _) (c .before .before .before .before .before .looked5 .given .1) in
+    omega (arith, f .1 .begun)
 
 run-same-length-9 : (t : ℕ) → Of run-lts.Need-same-length-9 t
 run-same-length-9 t c = c .before .before .before .before .before .before .before .before .loop .inv .0
@@ -335,7 +601,12 @@ run-same-length-10 t c = c .before .before .put-operator3 .kept .0 ∙ c .before
 
 run-returns-5 : (t : ℕ) → Of run-lts.Need-returns-5 t
 unfolding RunsTo
-run-returns-5 t c = let d = head t (c .before .before .before .before .before .before .before) in let f = asks _ _ _ _ _ _ _ _ _ _ _ _ _ d (End _) (c .before .before .before .before .before .looked5 .given .1) in arm-end _ _ _ _ _ _ _ _ _ _ _ _ (d .turn) (c .before .before .before .before .before .looked5 .given .0 .0) _ _ f (c .before .before .put-operator3 .ensures .1) refl (c .before .before .put-operator3 .ensures .0)
+run-returns-5 t c =
+    let looked5 = c .before .before .before .before .before .looked5 in
+    let put-operator3 = c .before .before .put-operator3 in
+    let d = head t (c .before .before .before .before .before .before .before) in
+    let f = asks _ _ _ _ _ _ _ _ _ _ _ _ _ d (End _) (looked5 .given .1) in
+    arm-end _ _ _ _ _ _ _ _ _ _ _ _ (d .turn) (looked5 .given .0 .0) _ _ f (put-operator3 .ensures .1) refl (put-operator3 .ensures .0)
 
 run-enum-told-5 : (t : ℕ) → Of run-lts.Need-enum-told-5 t
 run-enum-told-5 t c = search needs
@@ -367,37 +638,82 @@ run-enum-known-looked-7 : (t : ℕ) → Of run-lts.Need-enum-known-looked-7 t
 run-enum-known-looked-7 t c = search needs
 
 run-put-two-requires : (t : ℕ) → Of run-lts.Need-put-two-requires t
-run-put-two-requires t c κs = let d = head t (c .before .before .before .before) in let f = asks _ _ _ _ _ _ _ _ _ _ _ _ _ d (Short _ _ _) (c .before .before .looked7 .given .1) in omega (arith, d .safe-now, f .0 .0)
+run-put-two-requires t c κs =
+    let d = head t (c .before .before .before .before) in
+    let f = asks _ _ _ _ _ _ _ _ _ _ _ _ _ d (Short _ _ _) (c .before .before .looked7 .given .1) in
+    omega (arith, d .safe-now, f .0 .0)
 
 run-pack-short-requires : (t : ℕ) → Of run-lts.Need-pack-short-requires t
 run-pack-short-requires t c κs = tt
 
 run-mul-stack-2 : (t : ℕ) → Of run-lts.Need-mul-stack-2 t
-run-mul-stack-2 t c = let d = head t (c .before .before .before .before .before .before .before .before) in let f = asks _ _ _ _ _ _ _ _ _ _ _ _ _ d (Short _ _ _) (c .before .before .before .before .before .before .looked7 .given .1) in omega (arith, d .safe-now, f .0 .2)
+run-mul-stack-2 t c =
+    let d = head t (c .before .before .before .before .before .before .before .before) in
+    let f = asks _ _ _ _ _ _ _ _ _ _ _ _ _ d (Short _ _ _) (c .before .before .before .before .before .before .looked7 .given .1) in
+    omega (arith, d .safe-now, f .0 .2)
 
 run-slice-write-stack-2 : (t : ℕ) → Of run-lts.Need-slice-write-stack-2 t
-run-slice-write-stack-2 t c = let d = head t (c .before .before .before .before .before .before .before .before) in let f = asks _ _ _ _ _ _ _ _ _ _ _ _ _ d (Short _ _ _) (c .before .before .before .before .before .before .looked7 .given .1) in omega (arith, d .safe-now, f .0 .2)
+run-slice-write-stack-2 t c =
+    let d = head t (c .before .before .before .before .before .before .before .before) in
+    let f = asks _ _ _ _ _ _ _ _ _ _ _ _ _ d (Short _ _ _) (c .before .before .before .before .before .before .looked7 .given .1) in
+    omega (arith, d .safe-now, f .0 .2)
 
 run-add-count-2 : (t : ℕ) → Of run-lts.Need-add-count-2 t
-run-add-count-2 t c = let d = head t (c .before .before .before .before .before .before .before .before) in let f = asks _ _ _ _ _ _ _ _ _ _ _ _ _ d (Short _ _ _) (c .before .before .before .before .before .before .looked7 .given .1) in omega (arith, d .safe-now, f .0 .2)
+run-add-count-2 t c =
+    let d = head t (c .before .before .before .before .before .before .before .before) in
+    let f = asks _ _ _ _ _ _ _ _ _ _ _ _ _ d (Short _ _ _) (c .before .before .before .before .before .before .looked7 .given .1) in
+    omega (arith, d .safe-now, f .0 .2)
 
 run-add-tail-2 : (t : ℕ) → Of run-lts.Need-add-tail-2 t
-run-add-tail-2 t c = let d = head t (c .before .before .before .before .before .before .before .before) in let f = asks _ _ _ _ _ _ _ _ _ _ _ _ _ d (Short _ _ _) (c .before .before .before .before .before .before .looked7 .given .1) in omega (arith, d .safe-now, f .0 .2)
+run-add-tail-2 t c =
+    let d = head t (c .before .before .before .before .before .before .before .before) in
+    let f = asks _ _ _ _ _ _ _ _ _ _ _ _ _ d (Short _ _ _) (c .before .before .before .before .before .before .looked7 .given .1) in
+    omega (arith, d .safe-now, f .0 .2)
 
 run-add-tokens-4 : (t : ℕ) → Of run-lts.Need-add-tokens-4 t
-run-add-tokens-4 t c = let d = head t (c .before .before .before .before .before .before .before .before) in let f = asks _ _ _ _ _ _ _ _ _ _ _ _ _ d (Short _ _ _) (c .before .before .before .before .before .before .looked7 .given .1) in omega (arith, f .0 .0 .within, c .before .before .before .before .before .before .before .before .before .before .before .before .before .before .before .good)
+run-add-tokens-4 t c =
+    let d = head t (c .before .before .before .before .before .before .before .before) in
+    let f = asks _ _ _ _ _ _ _ _ _ _ _ _ _ d (Short _ _ _) (c .before .before .before .before .before .before .looked7 .given .1) in
+    omega (
+      arith,
+      f .0 .0 .within,
+      c .before .before .before .before .before .before .before .before .before .before .before .before .before .before .before .good,
+    )
 
 run-sub-end : (t : ℕ) → Of run-lts.Need-sub-end t
-run-sub-end t c = let d = head t (c .before .before .before .before .before .before .before .before) in let f = asks _ _ _ _ _ _ _ _ _ _ _ _ _ d (Short _ _ _) (c .before .before .before .before .before .before .looked7 .given .1) in omega (arith, f .0 .0)
+run-sub-end t c =
+    let d = head t (c .before .before .before .before .before .before .before .before) in
+    let f = asks _ _ _ _ _ _ _ _ _ _ _ _ _ d (Short _ _ _) (c .before .before .before .before .before .before .looked7 .given .1) in
+    omega (arith, f .0 .0)
 
 run-add-end : (t : ℕ) → Of run-lts.Need-add-end t
-run-add-end t c = let d = head t (c .before .before .before .before .before .before .before .before) in let f = asks _ _ _ _ _ _ _ _ _ _ _ _ _ d (Short _ _ _) (c .before .before .before .before .before .before .looked7 .given .1) in omega (arith, d .safe-now, f .0 .0, c .before .before .before .before .before .before .before .before .before .before .before .before .before .before .before .good)
+run-add-end t c =
+    let d = head t (c .before .before .before .before .before .before .before .before) in
+    let f = asks _ _ _ _ _ _ _ _ _ _ _ _ _ d (Short _ _ _) (c .before .before .before .before .before .before .looked7 .given .1) in
+    omega (
+      arith,
+      d .safe-now,
+      f .0 .0,
+      c .before .before .before .before .before .before .before .before .before .before .before .before .before .before .before .good,
+    )
 
 run-loop-less-5 : (t : ℕ) → Of run-lts.Need-loop-less-5 t
-run-loop-less-5 t c = let d = head t (c .before .before .before .before .before .before .before .before) in let f = asks _ _ _ _ _ _ _ _ _ _ _ _ _ d (Short _ _ _) (c .before .before .before .before .before .before .looked7 .given .1) in omega (arith, f .0 .0)
+run-loop-less-5 t c =
+    let d = head t (c .before .before .before .before .before .before .before .before) in
+    let f = asks _ _ _ _ _ _ _ _ _ _ _ _ _ d (Short _ _ _) (c .before .before .before .before .before .before .looked7 .given .1) in
+    omega (arith, f .0 .0)
 
 run-loop-again-5 : (t : ℕ) → Of run-lts.Need-loop-again-5 t
-run-loop-again-5 t c = let d = head t (c .before .before .before .before .before .before .before .before) in let f = asks _ _ _ _ _ _ _ _ _ _ _ _ _ d (Short _ _ _) (c .before .before .before .before .before .before .looked7 .given .1) in (length-set {A = ℕ} (c .before .before .before .before .before .before .before .before .before .loop .stack) (c .before .before .before .before .before .before .before .before .before .loop .count) (c .pack-short .result) ∙ c .before .before .before .before .before .before .before .before .before .loop .inv .0, c .before .before .before .put-two .kept .0 ∙ c .before .before .before .before .before .before .before .before .before .loop .inv .1, arm-short _ _ _ _ _ _ _ _ _ _ _ _ (d .turn) _ _ _ (c .pack-short .result) _ _ f (c .pack-short .ensures) (c .before .before .before .put-two .ensures .1) refl)
+run-loop-again-5 t c =
+    let loop = c .before .before .before .before .before .before .before .before .before .loop in
+    let put-two = c .before .before .before .put-two in
+    let d = head t (c .before .before .before .before .before .before .before .before) in
+    let f = asks _ _ _ _ _ _ _ _ _ _ _ _ _ d (Short _ _ _) (c .before .before .before .before .before .before .looked7 .given .1) in (
+      length-set {A = ℕ} (loop .stack) (loop .count) (c .pack-short .result) ∙ loop .inv .0,
+      put-two .kept .0 ∙ loop .inv .1,
+      arm-short _ _ _ _ _ _ _ _
+          _ _ _ _ (d .turn) _ _ _ (c .pack-short .result) _ _ f (c .pack-short .ensures) (put-two .ensures .1) refl,
+    )
 
 pub +run-spec : {M : Type 1} → statement M
 +run-spec = close μ-run λ t. run-lts.spec (callees t)

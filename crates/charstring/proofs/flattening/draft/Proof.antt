@@ -13,9 +13,13 @@ use Rattle.charstring.proofs.flattening.draft.Tie as tie
 
 -- the run is the reading's
 ran : (c : tie.After-run)
-    → Done (rulesOf (c .before .before .before .before .before .before .before .before .before .before .args .profile)) (length (c .before .before .before .before .before .before .before .before .before .before .args .held .now)) (c .before .before .before .before .before .before .before .before .before .before .args .held .now) (c .run .last .1 .1 .1 .1 .1 .0) (c .run .last .1 .1 .1 .1 .1 .1 .0) (c .run .result)
-    (reading (rulesOf (c .before .before .before .before .before .before .before .before .before .before .args .profile)) (listsOf 2 (c .before .before .before .before .before .before .before .before .before .before .args .globals .now) (c .before .before .before .before .before .before .before .before .before .before .args .locals .now)) (c .before .before .before .before .before .before .before .before .before .before .args .budget) (c .before .before .before .before .before .before .before .before .before .before .args .cs .now))
-ran c = done (c .before .before .before .before .before .before .before .before .before .before .args .profile) (length (c .before .before .before .before .before .before .before .before .before .before .args .held .now)) _ _ refl _ _ (c .before .before .before .before .before .before .before .before .before .before .args .budget) _ _ (c .before .before .before .before .begun .ensures) (c .before .before .before .before .before .limits-of .ensures) _ _ _ _ _ (c .before .levels-of .ensures) (c .run .ensures)
+    → let args = c .before .before .before .before .before .before .before .before .before .before .args in
+    Done (rulesOf (args .profile)) (length (args .held .now)) (args .held .now) (c .run .last .1 .1 .1 .1 .1 .0) (c .run .last .1 .1 .1 .1 .1 .1 .0)
+    (c .run .result) (reading (rulesOf (args .profile)) (listsOf 2 (args .globals .now) (args .locals .now)) (args .budget) (args .cs .now))
+ran c =
+    let args = c .before .before .before .before .before .before .before .before .before .before .args in
+    done (args .profile) (length (args .held .now)) _ _ refl _ _ (args .budget) _ _ (c .before .before .before .before .begun .ensures)
+    (c .before .before .before .before .before .limits-of .ensures) _ _ _ _ _ (c .before .levels-of .ensures) (c .run .ensures)
 
 limits-of-requires : tie.Need-limits-of-requires
 limits-of-requires c κs = search needs
@@ -30,7 +34,10 @@ levels-of-requires : tie.Need-levels-of-requires
 levels-of-requires c κs = search needs
 
 run-requires : tie.Need-run-requires
-run-requires c κs = ready (c .before .before .before .before .before .before .before .before .before .args .profile) (length (c .before .before .before .before .before .before .before .before .before .args .held .now)) _ _ refl _ _ (c .before .before .before .before .before .before .before .before .before .args .budget) _ _ (c .before .before .before .begun .ensures) (c .before .before .before .before .limits-of .ensures) (le-refl _)
+run-requires c κs =
+    let args = c .before .before .before .before .before .before .before .before .before .args in
+    ready (args .profile) (length (args .held .now)) _ _ refl _ _ (args .budget) _ _ (c .before .before .before .begun .ensures)
+    (c .before .before .before .before .limits-of .ensures) (le-refl _)
 
 enum-told : tie.Need-enum-told
 enum-told c = search needs
@@ -42,7 +49,11 @@ enum-known-how : tie.Need-enum-known-how
 enum-known-how c = search needs
 
 counted-requires : tie.Need-counted-requires
-counted-requires c κs = few-tokens _ _ _ _ _ _ _ (ran (c .before .before .before .before .before .before .before)) _ (c .before .how .given .1) (c .before .before .before .before .before .before .before .before .before .before .before .before .before .before .before .before .before .args .budget) (tokens-budget _ _ _ _) (c .before .before .before .before .before .before .before .before .before .before .before .before .before .before .before .before .before .fits .budget .fits)
+counted-requires c κs =
+    few-tokens _ _ _ _ _ _ _ (ran (c .before .before .before .before .before .before .before)) _ (c .before .how .given .1)
+    (c .before .before .before .before .before .before .before .before .before .before .before .before .before .before .before .before .before .args .budget)
+    (tokens-budget _ _ _ _)
+    (c .before .before .before .before .before .before .before .before .before .before .before .before .before .before .before .before .before .fits .budget .fits)
 
 same-length : tie.Need-same-length
 same-length c = search needs

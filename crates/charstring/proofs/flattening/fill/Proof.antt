@@ -17,13 +17,23 @@ levels-of-requires : tie.Need-levels-of-requires
 levels-of-requires c κs = search needs
 
 run-requires : tie.Need-run-requires
-run-requires c κs = ready (c .before .before .before .before .before .before .before .before .before .args .profile) (c .before .before .before .before .before .before .before .before .before .args .n) _ _ refl _ _ (c .before .before .before .before .before .before .before .before .before .args .budget) _ _ (c .before .before .before .begun .ensures) (c .before .before .before .before .limits-of .ensures) (c .before .before .before .before .before .before .before .before .before .pre .fits)
+run-requires c κs =
+    let args = c .before .before .before .before .before .before .before .before .before .args in
+    ready (args .profile) (args .n) _ _ refl _ _ (args .budget) _ _ (c .before .before .before .begun .ensures)
+    (c .before .before .before .before .limits-of .ensures) (c .before .before .before .before .before .before .before .before .before .pre .fits)
 
 same-length : tie.Need-same-length
 same-length c = search needs
 
 returns : tie.Need-returns
-returns c = filled-by _ (c .before .before .before .before .before .before .before .before .before .before .before .before .before .args .n) _ _ _ _ _ (done (c .before .before .before .before .before .before .before .before .before .before .before .before .before .args .profile) (c .before .before .before .before .before .before .before .before .before .before .before .before .before .args .n) _ _ refl _ _ (c .before .before .before .before .before .before .before .before .before .before .before .before .before .args .budget) _ _ (c .before .before .before .before .before .before .before .begun .ensures) (c .before .before .before .before .before .before .before .before .limits-of .ensures) _ _ _ _ _ (c .before .before .before .before .levels-of .ensures) (c .before .before .before .run .ensures)) (c .before .before .before .before .before .before .before .before .before .before .before .before .before .pre) (c .before .before .before .run .kept .1 .1 .1 .1 .1 .1 .0)
+returns c =
+    let args = c .before .before .before .before .before .before .before .before .before .before .before .before .before .args in
+    let run = c .before .before .before .run in
+    filled-by _ (args .n) _ _ _ _ _ (done (args .profile) (args .n) _ _ refl _ _ (args .budget) _ _
+    (c .before .before .before .before .before .before .before .begun .ensures)
+    (c .before .before .before .before .before .before .before .before .limits-of .ensures) _ _ _ _ _
+    (c .before .before .before .before .levels-of .ensures) (run .ensures))
+    (c .before .before .before .before .before .before .before .before .before .before .before .before .before .pre) (run .kept .1 .1 .1 .1 .1 .1 .0)
 
 pub fill-spec : {M : Type 1} → statement M
 fill-spec =

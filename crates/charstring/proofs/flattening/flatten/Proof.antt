@@ -50,7 +50,11 @@ enum-told-2 c = search needs
 
 returns-2 : tie.Need-returns-2
 unfolding flattening
-returns-2 c = shut 2 _ _ _ (c .before .well-formed2 .result) (c .match2 .keys2) (c .before .well-formed2 .ensures) ∙ opened 1 _ _ _ (c .before .before .before .before .well-formed .result) (c .before .before .before .match .keys1) (c .before .before .before .before .well-formed .ensures)
+returns-2 c =
+    let well-formed = c .before .before .before .before .well-formed in
+    let well-formed2 = c .before .well-formed2 in
+    shut 2 _ _ _ (well-formed2 .result) (c .match2 .keys2) (well-formed2 .ensures) ∙ opened 1 _ _ _ (well-formed .result)
+    (c .before .before .before .match .keys1) (well-formed .ensures)
 
 write-requires : tie.Need-write-requires
 write-requires c κs = search needs
@@ -60,7 +64,12 @@ same-length c = search needs
 
 returns-3 : tie.Need-returns-3
 unfolding flattening
-returns-3 c = c .before .before .write .ensures ∙ opened 2 _ _ _ (c .before .before .before .before .before .before .well-formed2 .result) (c .before .before .before .before .before .match2 .keys1) (c .before .before .before .before .before .before .well-formed2 .ensures) ∙ opened 1 _ _ _ (c .before .before .before .before .before .before .before .before .before .well-formed .result) (c .before .before .before .before .before .before .before .before .match .keys1) (c .before .before .before .before .before .before .before .before .before .well-formed .ensures)
+returns-3 c =
+    let well-formed = c .before .before .before .before .before .before .before .before .before .well-formed in
+    let well-formed2 = c .before .before .before .before .before .before .well-formed2 in
+    c .before .before .write .ensures ∙ opened 2 _ _ _ (well-formed2 .result) (c .before .before .before .before .before .match2 .keys1)
+    (well-formed2 .ensures) ∙ opened 1 _ _ _ (well-formed .result) (c .before .before .before .before .before .before .before .before .match .keys1)
+    (well-formed .ensures)
 
 pub flatten-spec : {M : Type 1} → statement M
 flatten-spec =

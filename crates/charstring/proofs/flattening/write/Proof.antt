@@ -28,7 +28,10 @@ keep-requires : tie.Need-keep-requires
 keep-requires c κs = search needs
 
 fill-requires : tie.Need-fill-requires
-fill-requires c κs = held (c .before .before .before .before .before .before .before .before .before .before .before .before .before .args .out .now) _ _ _ (ap measured (sym (c .before .before .before .before .n .given .1)) ∙ c .before .before .before .before .before .before .before .draft .ensures .0) _ (c .before .before .if1 .left)
+fill-requires c κs =
+    held (c .before .before .before .before .before .before .before .before .before .before .before .before .before .args .out .now) _ _ _ (ap
+    measured (sym (c .before .before .before .before .n .given .1)) ∙ c .before .before .before .before .before .before .before .draft .ensures .0) _
+    (c .before .before .if1 .left)
 
 returns-2 : tie.Need-returns-2
 returns-2 c = by-stop _ _ _ _ (ap measured (sym (c .before .k .given .1)) ∙ c .before .before .before .before .draft .ensures .0)
@@ -37,13 +40,20 @@ same-length : tie.Need-same-length
 same-length c = search needs
 
 returns-3 : tie.Need-returns-3
-returns-3 c = by-held _ _ _ _ (ap measured (sym (c .before .before .before .before .before .before .before .before .n .given .1)) ∙ c .before .before .before .before .before .before .before .before .before .before .before .draft .ensures .0) (c .before .before .before .before .before .before .if1 .left) _ _ (c .before .before .before .before .before .before .before .before .before .before .before .draft .ensures .1) (c .before .before .before .before .before .if2 .taken) (omega arith) _ (c .before .before .keep .ensures)
+returns-3 c =
+    let draft = c .before .before .before .before .before .before .before .before .before .before .before .draft in
+    by-held _ _ _ _ (ap measured (sym (c .before .before .before .before .before .before .before .before .n .given .1)) ∙ draft .ensures .0)
+    (c .before .before .before .before .before .before .if1 .left) _ _ (draft .ensures .1) (c .before .before .before .before .before .if2 .taken)
+    (omega arith) _ (c .before .before .keep .ensures)
 
 same-length-2 : tie.Need-same-length-2
 same-length-2 c = search needs
 
 returns-4 : tie.Need-returns-4
-returns-4 c = by-flat _ _ _ _ (ap measured (sym (c .before .before .before .before .before .before .before .n .given .1)) ∙ c .before .before .before .before .before .before .before .before .before .before .draft .ensures .0) (c .before .before .before .before .before .if1 .left) _ (c .before .before .fill .ensures)
+returns-4 c =
+    by-flat _ _ _ _ (ap measured (sym (c .before .before .before .before .before .before .before .n .given .1)) ∙
+    c .before .before .before .before .before .before .before .before .before .before .draft .ensures .0)
+    (c .before .before .before .before .before .if1 .left) _ (c .before .before .fill .ensures)
 
 pub write-spec : {M : Type 1} → statement M
 write-spec =

@@ -37,7 +37,8 @@ shared-slice-read-t26 c = search needs
 
 -- where the token behind a short number starts
 next-is : (c : tie.Joined7)
-    → c .if7 .next ≡ c .before .before .before .before .before .before .before .before .before .args .i + wideOf (getD (c .before .before .before .before .before .before .before .before .before .args .cs .now) (c .before .before .before .before .before .before .before .before .before .args .i) 0)
+    → let args = c .before .before .before .before .before .before .before .before .before .args in
+    c .if7 .next ≡ args .i + wideOf (getD (args .cs .now) (args .i) 0)
 next-is c =
     let g = c .before .before .before .before .before .before .before .before .before .args in
     let b = getD (g .cs .now) (g .i) 0 in
@@ -49,7 +50,9 @@ next-is c =
 returns-3 : tie.Need-returns-3
 returns-3 c =
     let g = c .before .before .before .before .before .before .before .before .before .before .args in
-    short-looked (g .cs .now) (g .i) (ltb-true (g .i + 1) (length (g .cs .now)) (c .before .before .before .if5 .taken)) (omega arith) (omega arith) (g .budget) (g .operands) (g .limit) (g .tokens) (g .count) (g .hints) (g .mask) _ (omega arith) (ltb-true (g .count) (g .operands) (c .before .before .if6 .taken)) (c .shared-slice-known3 .given (g .i + 1) .fits) (next-is (c .before))
+    short-looked (g .cs .now) (g .i) (ltb-true (g .i + 1) (length (g .cs .now)) (c .before .before .before .if5 .taken)) (omega arith) (omega arith)
+    (g .budget) (g .operands) (g .limit) (g .tokens) (g .count) (g .hints) (g .mask) _ (omega arith)
+    (ltb-true (g .count) (g .operands) (c .before .before .if6 .taken)) (c .shared-slice-known3 .given (g .i + 1) .fits) (next-is (c .before))
 
 clears-requires : tie.Need-clears-requires
 clears-requires c κs = search needs
@@ -60,7 +63,8 @@ add-t28 c = search needs
 returns-4 : tie.Need-returns-4
 returns-4 c =
     let g = c .before .before .before .before .before .before .before .args in
-    clear-looked (g .cs .now) (g .i) (omega arith) (c .before .clears .ensures .0 (search needs)) (omega arith) (g .budget) (g .operands) (g .limit) (g .tokens) (g .count) (g .hints) (g .mask) (omega arith)
+    clear-looked (g .cs .now) (g .i) (omega arith) (c .before .clears .ensures .0 (search needs)) (omega arith)
+    (g .budget) (g .operands) (g .limit) (g .tokens) (g .count) (g .hints) (g .mask) (omega arith)
 
 look-at-requires : tie.Need-look-at-requires
 look-at-requires c κs = search needs

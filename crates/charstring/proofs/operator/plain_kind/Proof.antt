@@ -52,7 +52,11 @@ unfolding plainKind
 returns-11 c = ap plainKind (sym (c .match .keys10))
 
 returns-12 : tie.Need-returns-12
-returns-12 c = let n = c .match .rest in unknown _ (c .before .before .clears .ensures .1 (search needs)) (n .0 .0 .0 .0 .0 .0 .0 .0 .0 .1, (n .0 .0 .0 .0 .0 .0 .0 .0 .1, (n .0 .0 .0 .0 .1, (n .0 .1, tt)))) (n .0 .0 .0 .1, (n .0 .0 .1, tt)) (n .0 .0 .0 .0 .0 .0 .0 .1, (n .1, (n .0 .0 .0 .0 .0 .0 .1, (n .0 .0 .0 .0 .0 .1, tt))))
+returns-12 c =
+    let n = c .match .rest in
+    unknown _ (c .before .before .clears .ensures .1 (search needs))
+    (n .0 .0 .0 .0 .0 .0 .0 .0 .0 .1, (n .0 .0 .0 .0 .0 .0 .0 .0 .1, (n .0 .0 .0 .0 .1, (n .0 .1, tt)))) (n .0 .0 .0 .1, (n .0 .0 .1, tt))
+    (n .0 .0 .0 .0 .0 .0 .0 .1, (n .1, (n .0 .0 .0 .0 .0 .0 .1, (n .0 .0 .0 .0 .0 .1, tt))))
 
 pub plain-kind-spec : {M : Type 1} → statement M
 plain-kind-spec = tie.close (tie.spec clears-requires returns returns-2 returns-3 returns-4 returns-5 returns-6 returns-7 returns-8 returns-9 returns-10 returns-11 returns-12)

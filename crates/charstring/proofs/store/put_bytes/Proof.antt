@@ -36,7 +36,14 @@ loop-less : tie.Need-loop-less Inv-loop μ-loop
 loop-less c = omega arith
 
 loop-again : tie.Need-loop-again Inv-loop μ-loop
-loop-again c = (omega arith, length-set (c .before .before .loop .out) _ _ ∙ c .before .before .loop .inv .1, ap (λ l. set l (c .before .before .before .before .before .before .args .at + c .before .before .loop .k) (getD (c .before .before .before .before .before .before .args .m .now) (c .before .before .loop .k) 0)) (c .before .before .loop .inv .2) ∙ puts-next _ _ (c .before .before .before .before .before .before .args .m .now) _ (c .before .before .loop .k) (omega arith) (omega arith))
+loop-again c =
+    let args = c .before .before .before .before .before .before .args in
+    let loop = c .before .before .loop in (
+      omega arith,
+      length-set (loop .out) _ _ ∙ loop .inv .1,
+      ap (λ l. set l (args .at + loop .k) (getD (args .m .now) (loop .k) 0)) (loop .inv .2) ∙
+          puts-next _ _ (args .m .now) _ (loop .k) (omega arith) (omega arith),
+    )
 
 add-result : tie.Need-add-result Inv-loop μ-loop
 add-result c = omega arith

@@ -30,7 +30,13 @@ same-length : tie.Need-same-length
 same-length c = search needs
 
 returns : tie.Need-returns
-returns c = (omega arith, stored-then _ _ _ (255 ∷ _ ∷ _ ∷ []) (_ ∷ _ ∷ []) (stored-then _ _ _ (255 ∷ []) (_ ∷ _ ∷ []) (c .before .before .before .before .before .before .before .before .before .before .put-byte .ensures .1) (c .before .before .before .before .before .before .before .before .before .before .put-byte .ensures .0) (c .before .before .before .before .before .before .put-two .ensures .1)) (omega arith) (c .before .before .put-two2 .ensures .1))
+returns c =
+    let put-byte = c .before .before .before .before .before .before .before .before .before .before .put-byte in (
+      omega arith,
+      stored-then _ _ _ (255 ∷ _ ∷ _ ∷ []) (_ ∷ _ ∷ [])
+          (stored-then _ _ _ (255 ∷ []) (_ ∷ _ ∷ []) (put-byte .ensures .1) (put-byte .ensures .0) (c .before .before .before .before .before .before .put-two .ensures .1))
+          (omega arith) (c .before .before .put-two2 .ensures .1),
+    )
 
 pub put-fixed-spec : {M : Type 1} → statement M
 put-fixed-spec =

@@ -16,7 +16,13 @@ same-length : tie.Need-same-length
 same-length c = search needs
 
 returns : tie.Need-returns
-returns c = stored-as _ _ _ (fixed-bytes (c .before .before .before .before .before .before .before .before .args .o) _ (omega arith) (passed (c .before .before .before .before .before .before .before .before .args .o .value) (omega arith) (c .before .before .before .before .before .bits-of .ensures .0)) (search needs) (c .before .before .before .before .before .bits-of .ensures .1)) (c .before .before .put-fixed .ensures .0) (c .before .before .put-fixed .ensures .1)
+returns c =
+    let args = c .before .before .before .before .before .before .before .before .args in
+    let bits-of = c .before .before .before .before .before .bits-of in
+    let put-fixed = c .before .before .put-fixed in
+    stored-as _ _ _
+    (fixed-bytes (args .o) _ (omega arith) (passed (args .o .value) (omega arith) (bits-of .ensures .0)) (search needs) (bits-of .ensures .1))
+    (put-fixed .ensures .0) (put-fixed .ensures .1)
 
 add-put-integer : tie.Need-add-put-integer
 add-put-integer c = search needs
@@ -28,7 +34,12 @@ same-length-2 : tie.Need-same-length-2
 same-length-2 c = search needs
 
 returns-2 : tie.Need-returns-2
-returns-2 c = stored-as _ _ _ (integer-bytes (c .before .before .before .before .before .before .before .before .args .o) _ (omega arith) (passed (c .before .before .before .before .before .before .before .before .args .o .value) (omega arith) (c .before .before .before .before .before .bits-of .ensures .0)) (search needs)) (c .before .before .put-integer .ensures .0) (c .before .before .put-integer .ensures .1)
+returns-2 c =
+    let args = c .before .before .before .before .before .before .before .before .args in
+    let put-integer = c .before .before .put-integer in
+    stored-as _ _ _ (integer-bytes (args .o) _ (omega arith)
+    (passed (args .o .value) (omega arith) (c .before .before .before .before .before .bits-of .ensures .0)) (search needs)) (put-integer .ensures .0)
+    (put-integer .ensures .1)
 
 pub put-operand-spec : {M : Type 1} → statement M
 put-operand-spec =

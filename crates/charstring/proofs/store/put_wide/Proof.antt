@@ -24,7 +24,9 @@ same-length : tie.Need-same-length
 same-length c = search needs
 
 returns : tie.Need-returns
-returns c = (omega arith, stored-then _ _ _ (28 ∷ []) (_ ∷ _ ∷ []) (c .before .before .before .before .before .before .put-byte .ensures .1) (c .before .before .before .before .before .before .put-byte .ensures .0) (c .before .before .put-two .ensures .1))
+returns c =
+    let put-byte = c .before .before .before .before .before .before .put-byte in
+    (omega arith, stored-then _ _ _ (28 ∷ []) (_ ∷ _ ∷ []) (put-byte .ensures .1) (put-byte .ensures .0) (c .before .before .put-two .ensures .1))
 
 pub put-wide-spec : {M : Type 1} → statement M
 put-wide-spec =

@@ -22,7 +22,12 @@ enum-known-o : tie.Need-enum-known-o
 enum-known-o c = search needs
 
 add-t11 : tie.Need-add-t11
-add-t11 c = let h = number-ahead (c .before .before .before .before .before .before .args .cs .now) (c .before .before .before .before .before .before .args .i) (c .before .before .before .before .before .before .pre) (c .before .o .given .0 .0) (c .before .o .given .0 .1 .0) (ap numberRead (sym (c .before .o .given .1)) ∙ c .before .before .before .read-charstring-number .ensures) .1 in omega arith
+add-t11 c =
+    let args = c .before .before .before .before .before .before .args in
+    let o = c .before .o in
+    let h = number-ahead (args .cs .now) (args .i) (c .before .before .before .before .before .before .pre) (o .given .0 .0) (o .given .0 .1 .0)
+    (ap numberRead (sym (o .given .1)) ∙ c .before .before .before .read-charstring-number .ensures) .1 in
+    omega arith
 
 enum-told : tie.Need-enum-told
 enum-told c = search needs
@@ -34,13 +39,25 @@ operator-at-requires : tie.Need-operator-at-requires
 operator-at-requires c κs = search needs
 
 returns : tie.Need-returns
-returns c = let e = ap numberRead (sym (c .before .o .given .1)) ∙ c .before .before .before .read-charstring-number .ensures in (number-at (c .before .before .before .before .before .before .args .cs .now) (c .before .before .before .before .before .before .args .i) (c .before .before .before .before .before .before .pre) (c .before .o .given .0 .0) (c .before .o .given .0 .1 .0) e, number-ahead (c .before .before .before .before .before .before .args .cs .now) (c .before .before .before .before .before .before .args .i) (c .before .before .before .before .before .before .pre) (c .before .o .given .0 .0) (c .before .o .given .0 .1 .0) e)
+returns c =
+    let args = c .before .before .before .before .before .before .args in
+    let pre = c .before .before .before .before .before .before .pre in
+    let o = c .before .o in
+    let e = ap numberRead (sym (o .given .1)) ∙ c .before .before .before .read-charstring-number .ensures in (
+      number-at (args .cs .now) (args .i) (pre) (o .given .0 .0) (o .given .0 .1 .0) e,
+      number-ahead (args .cs .now) (args .i) (pre) (o .given .0 .0)
+          (o .given .0 .1 .0) e,
+    )
 
 returns-2 : tie.Need-returns-2
 returns-2 c = (missing-at _ _ (c .before .before .before .before .before .pre) (ap numberRead (sym (c .enum-told .given .1)) ∙ c .before .before .read-charstring-number .ensures), tt)
 
 returns-3 : tie.Need-returns-3
-returns-3 c = (c .operator-at .ensures .0 ∙ operator-there _ _ (c .before .before .before .before .before .before .pre) (ap numberRead (sym (c .before .enum-told2 .given .1)) ∙ c .before .before .before .read-charstring-number .ensures), c .operator-at .ensures .1)
+returns-3 c = (
+  c .operator-at .ensures .0 ∙ operator-there _ _ (c .before .before .before .before .before .before .pre)
+      (ap numberRead (sym (c .before .enum-told2 .given .1)) ∙ c .before .before .before .read-charstring-number .ensures),
+  c .operator-at .ensures .1,
+)
 
 pub token-at-spec : {M : Type 1} → statement M
 token-at-spec =
