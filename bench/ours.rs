@@ -1,7 +1,7 @@
 //! Flattening by ours.
 
 use crate::fonts::Glyph;
-use crate::library::{flatten, Lent, PLAIN};
+use crate::library::{flatten_to, PLAIN};
 
 /// What ours answers: the number, the length and the tokens.
 #[derive(Clone, Copy)]
@@ -14,7 +14,7 @@ pub struct Answer {
 pub fn ours(glyph: &Glyph, budget: u32, out: &mut [u8]) -> Answer {
     let Glyph { charstring, globals, locals } = *glyph;
     let (mut length, mut tokens) = (0, 0);
-    let lent = Lent { charstring, globals, locals };
-    let number = flatten(lent, PLAIN, budget, out, &mut length, &mut tokens);
+    let lent = [charstring, globals, locals];
+    let number = flatten_to(lent, PLAIN, budget, out, &mut length, &mut tokens);
     Answer { number, length, tokens }
 }

@@ -1,10 +1,10 @@
 //! Compares a program with the expected lines: on the list's records, on those too big or too many
 //! to store, and then on random ones, batch after batch.
 
-use crate::expected::{line, UNREADABLE};
-use crate::groups::GROUPS;
-use crate::random::Random;
-use crate::record::{hex, row, Record};
+use model::expected::{line, UNREADABLE};
+use model::groups::GROUPS;
+use model::random::Random;
+use model::record::{hex, row, Record};
 use std::collections::BTreeMap;
 use std::fs::{self, File};
 use std::process::{Command, Stdio};

@@ -1,23 +1,9 @@
 //! Flattening compared in one process: the proved C function against the unchanged Rust, where document 01 holds it to
 //! a word, and against document 01's model everywhere. It ends with status 1 at a difference.
 
-#[allow(dead_code)]
-mod expected;
-#[allow(dead_code)]
-mod flattening;
 mod fonts;
-#[allow(dead_code)]
-mod groups;
-#[allow(dead_code)]
-mod index;
 mod library;
 mod native;
-#[allow(dead_code)]
-mod number;
-#[allow(dead_code)]
-mod random;
-#[allow(dead_code)]
-mod record;
 mod threads;
 
 use native::faults::FAULTS;
@@ -89,7 +75,7 @@ fn main() -> ExitCode {
 }
 
 fn options(words: impl Iterator<Item = String>) -> Option<Options> {
-    let (which, seed) = (String::new(), random::any_seed());
+    let (which, seed) = (String::new(), model::random::any_seed());
     let mut options = Options { which, cases: CASES, seconds: None, seed, folders: Vec::new() };
     for word in words {
         match word.split_once('=') {

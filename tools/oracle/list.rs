@@ -1,9 +1,9 @@
 //! The stored list of the program `cases`: its standard input, and the output it owes.
 
-use crate::expected::{line, UNREADABLE};
-use crate::groups::GROUPS;
-use crate::random::Random;
-use crate::record::{row, Record};
+use model::expected::{line, UNREADABLE};
+use model::groups::GROUPS;
+use model::random::Random;
+use model::record::{row, Record};
 use std::fs;
 use std::path::Path;
 

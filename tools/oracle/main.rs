@@ -5,14 +5,7 @@
 //! named in `groups`.
 
 mod differential;
-mod expected;
-mod flattening;
-mod groups;
-mod index;
 mod list;
-mod number;
-mod random;
-mod record;
 
 use std::process::ExitCode;
 
@@ -25,7 +18,7 @@ fn main() -> ExitCode {
     let done = match words[..] {
         ["list", folder] => list::write(folder),
         ["differential", program, seconds] => match seconds.parse() {
-            Ok(seconds) => differential::run(program, seconds, random::any_seed()),
+            Ok(seconds) => differential::run(program, seconds, model::random::any_seed()),
             Err(_) => Err(USAGE.into()),
         },
         ["differential", program, seconds, seed] => match (seconds.parse(), seed.parse()) {

@@ -1,20 +1,5 @@
 //! What document 01 and the Rust owe for a record of `cases`, as a C function. The fuzz target (`fuzz/`) links it.
 
-#[allow(dead_code)]
-mod expected;
-#[allow(dead_code)]
-mod flattening;
-#[allow(dead_code)]
-mod groups;
-#[allow(dead_code)]
-mod index;
-#[allow(dead_code)]
-mod number;
-#[allow(dead_code)]
-mod random;
-#[allow(dead_code)]
-mod record;
-
 /// Puts the line that is owed for a record at the start of `line`, as far as there is room, and answers its length.
 /// Where document 01 and the Rust part, it says so and ends the process.
 ///
@@ -31,7 +16,7 @@ pub unsafe extern "C" fn owed_line(
     let (record, line) = unsafe {
         (std::slice::from_raw_parts(record, size), std::slice::from_raw_parts_mut(line, room))
     };
-    let owed = expected::line(record);
+    let owed = model::expected::line(record);
     let fits = owed.len().min(room);
     line[..fits].copy_from_slice(&owed.as_bytes()[..fits]);
     owed.len()

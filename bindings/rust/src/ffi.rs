@@ -5,7 +5,7 @@
 //! A value whose place the answer leaves as it was is 0; the caller knows by the answer which those are.
 #![allow(unsafe_code)]
 
-mod c {
+pub mod c {
     extern "C" {
         pub fn ighzamrel_read_charstring_number(
             bytes: *const u8,
@@ -173,7 +173,21 @@ pub fn flatten(
     out: &mut [u8],
 ) -> (u32, usize, u32) {
     let (mut length, mut tokens) = (0, 0);
-    let answer = unsafe {
+    let lent = [charstring, globals, locals];
+    let answer = flatten_to(lent, profile, budget, out, &mut length, &mut tokens);
+    (answer, length, tokens)
+}
+
+/// The answer; a place that it does not give is left as it was.
+pub fn flatten_to(
+    [charstring, globals, locals]: [&[u8]; 3],
+    profile: u32,
+    budget: u32,
+    out: &mut [u8],
+    length: &mut usize,
+    tokens: &mut u32,
+) -> u32 {
+    unsafe {
         c::ighzamrel_flatten(
             charstring.as_ptr(),
             charstring.len(),
@@ -185,9 +199,8 @@ pub fn flatten(
             budget,
             out.as_mut_ptr(),
             out.len(),
-            &mut length,
-            &mut tokens,
+            length,
+            tokens,
         )
-    };
-    (answer, length, tokens)
+    }
 }

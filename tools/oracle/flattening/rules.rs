@@ -26,6 +26,24 @@ pub enum Verdict {
     Stopped(Refusal, u32),
 }
 
+impl Verdict {
+    /// The tokens that a run takes, and so the least budget with this verdict.
+    pub fn tokens(&self) -> u32 {
+        match self {
+            Verdict::Flat(_, tokens) | Verdict::Stopped(_, tokens) => *tokens,
+            Verdict::BadList(_) => 0,
+        }
+    }
+
+    /// The least room with this verdict.
+    pub fn length(&self) -> usize {
+        match self {
+            Verdict::Flat(flat, _) => flat.len(),
+            _ => 0,
+        }
+    }
+}
+
 const MOST_OPERANDS: usize = 48;
 
 /// An item of the flat string, and the token that it came from.

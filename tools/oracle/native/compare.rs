@@ -6,10 +6,10 @@
 use super::limits::{around, Limits};
 use super::ours::{Flatten, Lent, Places, UNSET_LENGTH, UNSET_TOKENS};
 use super::tally::Tally;
-use crate::flattening::rules::{self, Asked, Met, Refusal, Verdict};
-use crate::flattening::{owed, source};
-use crate::random::Random;
-use crate::record::hex;
+use model::flattening::rules::{self, Asked, Met, Refusal, Verdict};
+use model::flattening::{owed, source};
+use model::random::Random;
+use model::record::hex;
 use subsetter::Error;
 
 /// The Rust's answer, where it was asked.

@@ -1,7 +1,7 @@
 //! Faults in a thin layer before the proved function. A comparison that does not catch each is worth little.
 
 use super::ours::{flatten, Flatten, Lent, Places, GUARD};
-use crate::flattening::rules::Asked;
+use model::flattening::rules::Asked;
 
 /// Each fault, by what it does.
 pub const FAULTS: [(&str, Flatten); 12] = [

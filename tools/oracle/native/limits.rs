@@ -1,31 +1,13 @@
 //! The budgets and rooms that a charstring is asked with.
 
-use crate::flattening::rules::Verdict;
-use crate::random::Random;
+use model::flattening::rules::Verdict;
+use model::random::Random;
 
 #[derive(Clone, Copy, Debug)]
 pub struct Limits {
     pub strict: bool,
     pub budget: u32,
     pub room: usize,
-}
-
-impl Verdict {
-    /// The tokens that a run takes, and so the least budget with this verdict.
-    pub fn tokens(&self) -> u32 {
-        match self {
-            Verdict::Flat(_, tokens) | Verdict::Stopped(_, tokens) => *tokens,
-            Verdict::BadList(_) => 0,
-        }
-    }
-
-    /// The least room with this verdict.
-    fn length(&self) -> usize {
-        match self {
-            Verdict::Flat(flat, _) => flat.len(),
-            _ => 0,
-        }
-    }
 }
 
 impl Limits {

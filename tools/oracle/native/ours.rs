@@ -1,8 +1,8 @@
 //! The proved C function as a comparison calls it: the lent bytes stand between guards, everything in them
 //! is a pattern, and so are the places for the length and the tokens.
 
-use crate::flattening::rules::Asked;
 use crate::library;
+use model::flattening::rules::Asked;
 
 /// How many bytes before and behind the lent ones are looked at.
 pub const GUARD: usize = 16;
@@ -64,8 +64,8 @@ fn pattern(salt: u8, i: usize) -> u8 {
 /// The proved function.
 pub fn flatten(asked: &Asked, lent: &mut Lent, places: &mut Places) -> u32 {
     let Asked { charstring, globals, locals, .. } = *asked;
-    let glyph = library::Lent { charstring, globals, locals };
+    let glyph = [charstring, globals, locals];
     let profile = if asked.strict { library::STRICT } else { library::PLAIN };
     let out = &mut lent.bytes[GUARD..GUARD + lent.room];
-    library::flatten(glyph, profile, asked.budget, out, &mut places.length, &mut places.tokens)
+    library::flatten_to(glyph, profile, asked.budget, out, &mut places.length, &mut places.tokens)
 }

@@ -1,10 +1,10 @@
 //! A smaller input on which the sides still differ, and its description.
 
 use super::compare::{Comparison, Difference};
-use crate::flattening::inputs::{list, NONE};
-use crate::flattening::rules::Asked;
-use crate::index::rules as indexes;
-use crate::record::hex;
+use model::flattening::inputs::{list, NONE};
+use model::flattening::rules::Asked;
+use model::index::rules as indexes;
+use model::record::hex;
 
 /// How many smaller inputs are tried.
 const TRIES: u32 = 20_000;

@@ -1,6 +1,6 @@
 //! How often each answer came, and what the accepted ones had in them.
 
-use crate::flattening::rules::{Met, Verdict};
+use model::flattening::rules::{Met, Verdict};
 
 /// The answers of flattening, 0 to 13.
 const ANSWERS: usize = 14;

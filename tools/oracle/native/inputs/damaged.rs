@@ -1,7 +1,7 @@
 //! Charstrings and lists with a few bytes changed, cut off, put in or left out.
 
-use crate::flattening::inputs::Case;
-use crate::random::Random;
+use model::flattening::inputs::Case;
+use model::random::Random;
 
 /// The same with one to four hurts, mostly of the charstring.
 pub fn damaged(mut case: Case, random: &mut Random) -> Case {

@@ -2,10 +2,10 @@
 //! that call others, over lists on both sides of each bias. About a third have one thing wrong in them.
 
 use super::wrong::{add_unfinished, add_wrong};
-use crate::flattening::inputs::any::{add_number, PATHS, STEMS};
-use crate::flattening::inputs::{list, Case, GLOBAL, LOCAL};
-use crate::number::rules::{bias, written, Operand, Place};
-use crate::random::Random;
+use model::flattening::inputs::any::{add_number, PATHS, STEMS};
+use model::flattening::inputs::{list, Case, GLOBAL, LOCAL};
+use model::number::rules::{bias, written, Operand, Place};
+use model::random::Random;
 
 /// A string calls no more once it and its callees have about so many tokens.
 const MOST_TOKENS: usize = 400;

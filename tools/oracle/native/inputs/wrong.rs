@@ -1,8 +1,8 @@
 //! What a run is refused for, as a piece of a random charstring.
 
 use super::structured::Making;
-use crate::flattening::inputs::{GLOBAL, LOCAL};
-use crate::random::Random;
+use model::flattening::inputs::{GLOBAL, LOCAL};
+use model::random::Random;
 
 const NO_OPERATORS: [u8; 7] = [0, 2, 9, 13, 15, 16, 17];
 
