@@ -55,11 +55,11 @@ module _ (cs globals locals : List ℕ) (by : Limits) (levels : ℕ) (s₀ : Sta
 
   -- the loop stands at i with this state
   abbrev pub Stands : List ℕ → List ℕ → State → ℕ → Type 0
-  Stands stack out s i = Of (λ rules t₀. Here rules lists cs (by .budget) levels (by .stored) t₀ out₀ stack out s i)
+  Stands stack out s i = Of (λ rules t₀. Here rules lists cs (by .budget) levels (by .stored) t₀ stack out s i)
 
   -- the run ends so
   abbrev pub Stops : Ran → List ℕ → List ℕ → Type 0
-  Stops r stack out = Of (λ rules t₀. Done rules (by .stored) out₀ stack out r (read rules lists (by .budget) levels cs t₀))
+  Stops r stack out = Of (λ rules t₀. Done rules (by .stored) stack out r (read rules lists (by .budget) levels cs t₀))
 
   pub record Turn (stack out : List ℕ) (s : State) (i : ℕ) : Type 0 where
     pub same-stack : length stack ≡ length stack₀
@@ -111,7 +111,7 @@ module _ (cs globals locals : List ℕ) (by : Limits) (levels : ℕ) (s₀ : Sta
         → out₁ ≡ puts (by .stored) (s .length) (spelling charstringRows o ++ others) out → e ≡ s .length + length (spelling charstringRows o)
         → Stands (set stack (s .count) w) out₁ (pushedState e) j
     pushes o j w e others out₁ a u d q = λ rules r t₀ p.
-        by-push rules lists plain cs (h .bytes) (by .budget) levels (by .stored) (by .hints) (by .exact) t₀ out₀ stack out s i (ruled-now rules r) fits (h .stands rules r t₀ p)
+        by-push rules lists plain cs (h .bytes) (by .budget) levels (by .stored) (by .hints) (by .exact) t₀ stack out s i (ruled-now rules r) fits (h .stands rules r t₀ p)
         o j w others out₁ _ (a .0) (a .1) (a .2) u d (ap pushedState q)
 
     pub arm-push : (o : Operand) (j w e : ℕ) (out₁ : List ℕ) → Asks (Push j o) → unpackOf w ≡ o → out₁ ≡ puts (by .stored) (s .length) (spelling charstringRows o) out
@@ -129,36 +129,36 @@ module _ (cs globals locals : List ℕ) (by : Limits) (levels : ℕ) (s₀ : Sta
         → e ≡ s .length + length (operatorBytes o)
         → Stands stack out₁ (record { count = 0; tail = 0; hints = x; mask = s .mask; tokens = s .tokens + 1; length = e }) j
     arm-plain o j x e out₁ a d q = λ rules r t₀ p.
-        by-plain rules lists plain cs (h .bytes) (by .budget) levels (by .stored) (by .hints) (by .exact) t₀ out₀ stack out s i (ruled-now rules r) fits (h .stands rules r t₀ p)
+        by-plain rules lists plain cs (h .bytes) (by .budget) levels (by .stored) (by .hints) (by .exact) t₀ stack out s i (ruled-now rules r) fits (h .stands rules r t₀ p)
         o j x out₁ _ (a .0) (a .1) d (ap (λ (n : ℕ). record { count = 0; tail = 0; hints = x; mask = s .mask; tokens = s .tokens + 1; length = n }) q)
 
     pub arm-mask : (o : Operator) (b d c x e₁ e : ℕ) (out₁ out₂ : List ℕ) → Asks (Mask b d c x o) → out₁ ≡ puts (by .stored) (s .length) (operatorBytes o) out
         → e₁ ≡ s .length + length (operatorBytes o) → out₂ ≡ puts (by .stored) e₁ (take (d - b) (drop b cs)) out₁ → e ≡ e₁ + (d - b)
         → Stands stack out₂ (record { count = c; tail = 0; hints = x; mask = d - b; tokens = s .tokens + 1; length = e }) d
     arm-mask o b d c x e₁ e out₁ out₂ a w₁ q₁ w₂ q = λ rules r t₀ p.
-        by-mask rules lists plain cs (h .bytes) (by .budget) levels (by .stored) (by .hints) (by .exact) t₀ out₀ stack out s i (ruled-now rules r) fits (h .stands rules r t₀ p)
+        by-mask rules lists plain cs (h .bytes) (by .budget) levels (by .stored) (by .hints) (by .exact) t₀ stack out s i (ruled-now rules r) fits (h .stands rules r t₀ p)
         o b d c x out₁ out₂ _ (a .0) (a .1) (a .2) (a .3) (a .4) (a .5) w₁
         (w₂ ∙ ap (λ (n : ℕ). puts (by .stored) n (take (d - b) (drop b cs)) out₁) q₁)
         (ap (λ (n : ℕ). record { count = c; tail = 0; hints = x; mask = d - b; tokens = s .tokens + 1; length = n }) (q ∙ ap (λ (n : ℕ). n + (d - b)) q₁))
 
     pub arm-out : Asks Out → Stops (record { how = Back; st = s }) stack out
     arm-out a = λ rules r t₀ p.
-        by-out rules lists plain cs (h .bytes) (by .budget) levels (by .stored) (by .hints) (by .exact) t₀ out₀ stack out s i (ruled-now rules r) fits (h .stands rules r t₀ p) a
+        by-out rules lists plain cs (h .bytes) (by .budget) levels (by .stored) (by .hints) (by .exact) t₀ stack out s i (ruled-now rules r) fits (h .stands rules r t₀ p) a
 
     pub arm-bad : (k : Refusal) → Asks (Bad k) → Stops (record { how = Refused k; st = s }) stack out
     arm-bad k a = λ rules r t₀ p.
-        by-bad rules lists plain cs (h .bytes) (by .budget) levels (by .stored) (by .hints) (by .exact) t₀ out₀ stack out s i (ruled-now rules r) fits (h .stands rules r t₀ p) k a
+        by-bad rules lists plain cs (h .bytes) (by .budget) levels (by .stored) (by .hints) (by .exact) t₀ stack out s i (ruled-now rules r) fits (h .stands rules r t₀ p) k a
 
     pub arm-return : Asks Return
         → Stops (record { how = Back; st = record { count = s .count; tail = s .tail; hints = s .hints; mask = s .mask; tokens = s .tokens + 1; length = s .length } }) stack out
     arm-return a = λ rules r t₀ p.
-        by-return rules lists plain cs (h .bytes) (by .budget) levels (by .stored) (by .hints) (by .exact) t₀ out₀ stack out s i (ruled-now rules r) fits (h .stands rules r t₀ p)
+        by-return rules lists plain cs (h .bytes) (by .budget) levels (by .stored) (by .hints) (by .exact) t₀ stack out s i (ruled-now rules r) fits (h .stands rules r t₀ p)
         (a .0) (a .1) (a .2) (a .3)
 
     pub arm-end : (o : Operator) (s₁ : State) (out₁ : List ℕ) → Asks (End o) → out₁ ≡ puts (by .stored) (s .length) (operatorBytes o) out
         → s₁ .tokens ≡ s .tokens + 1 → s₁ .length ≡ s .length + length (operatorBytes o) → Stops (record { how = Ended; st = s₁ }) stack out₁
     arm-end o s₁ out₁ a d q e = λ rules r t₀ p.
-        by-end rules lists plain cs (h .bytes) (by .budget) levels (by .stored) (by .hints) (by .exact) t₀ out₀ stack out s i (ruled-now rules r) fits (h .stands rules r t₀ p)
+        by-end rules lists plain cs (h .bytes) (by .budget) levels (by .stored) (by .hints) (by .exact) t₀ stack out s i (ruled-now rules r) fits (h .stands rules r t₀ p)
         o (a .0) out₁ s₁ (a .1) (a .2) (a .3) d q e
 
     -- ---- a call
@@ -186,7 +186,7 @@ module _ (cs globals locals : List ℕ) (by : Limits) (levels : ℕ) (s₀ : Sta
 
       pub arm-no : (k : Refusal) → Aims (No k) → Stops (record { how = Refused k; st = s }) stack out
       arm-no k e = λ rules r t₀ p.
-          by-no rules lists plain cs (h .bytes) (by .budget) levels (by .stored) (by .hints) (by .exact) t₀ out₀ stack out s i (ruled-now rules r) fits (h .stands rules r t₀ p)
+          by-no rules lists plain cs (h .bytes) (by .budget) levels (by .stored) (by .hints) (by .exact) t₀ stack out s i (ruled-now rules r) fits (h .stands rules r t₀ p)
           (a .0) w j (a .1) (a .2) (a .3) list-of (chosenCount w by) (list-is w) (count-is w) k e
 
       module _ (from to : ℕ) (e : Aims (Enter from to)) (size : ℕ) (q : size ≡ length (spelling charstringRows operand-of)) where
@@ -203,9 +203,9 @@ module _ (cs globals locals : List ℕ) (by : Limits) (levels : ℕ) (s₀ : Sta
             let rules = v .0 in
             let r = ruled-now rules (v .1 .0) in
             let x = h .stands rules (v .1 .0) (v .1 .1 .0) (v .1 .1 .1) in
-            let m = index-fits rules lists plain cs (h .bytes) (by .budget) levels (by .stored) (by .hints) (by .exact) (v .1 .1 .0) out₀ stack out s i r fits x
+            let m = index-fits rules lists plain cs (h .bytes) (by .budget) levels (by .stored) (by .hints) (by .exact) (v .1 .1 .0) stack out s i r fits x
             (a .0) w j (a .1) (a .2) (a .3) list-of (chosenCount w by) (list-is w) (count-is w) from to e in
-            let g = found rules lists plain cs (h .bytes) (by .budget) levels (by .stored) (by .hints) (by .exact) (v .1 .1 .0) out₀ stack out s i r fits x
+            let g = found rules lists plain cs (h .bytes) (by .budget) levels (by .stored) (by .hints) (by .exact) (v .1 .1 .0) stack out s i r fits x
             (a .0) w j (a .1) (a .2) (a .3) list-of (chosenCount w by) (list-is w) (count-is w) from to e in
             (omega arith, (g .some-last, g .levels-left))
 
@@ -222,7 +222,7 @@ module _ (cs globals locals : List ℕ) (by : Limits) (levels : ℕ) (s₀ : Sta
                 ruled-now rules r,
                 (
                   _,
-                  inner-repr rules lists plain cs (h .bytes) (by .budget) levels (by .stored) (by .hints) (by .exact) t₀ out₀ stack out s i (ruled-now rules r) fits (h .stands rules r t₀ p)
+                  inner-repr rules lists plain cs (h .bytes) (by .budget) levels (by .stored) (by .hints) (by .exact) t₀ stack out s i (ruled-now rules r) fits (h .stands rules r t₀ p)
                       (a .0) w j (a .1) (a .2) (a .3) list-of (chosenCount w by) (list-is w) (count-is w) from to e size q,
                 ),
               ),
@@ -233,18 +233,18 @@ module _ (cs globals locals : List ℕ) (by : Limits) (levels : ℕ) (s₀ : Sta
           unfolding RunsTo
           arm-back b = λ rules r t₀ p.
               let x = h .stands rules r t₀ p in
-              let z = inner-repr rules lists plain cs (h .bytes) (by .budget) levels (by .stored) (by .hints) (by .exact) t₀ out₀ stack out s i (ruled-now rules r) fits x
+              let z = inner-repr rules lists plain cs (h .bytes) (by .budget) levels (by .stored) (by .hints) (by .exact) t₀ stack out s i (ruled-now rules r) fits x
               (a .0) w j (a .1) (a .2) (a .3) list-of (chosenCount w by) (list-is w) (count-is w) from to e size q in
-              came-back rules lists plain cs (h .bytes) (by .budget) levels (by .stored) (by .hints) (by .exact) t₀ out₀ stack out s i (ruled-now rules r) fits x
+              came-back rules lists plain cs (h .bytes) (by .budget) levels (by .stored) (by .hints) (by .exact) t₀ stack out s i (ruled-now rules r) fits x
               (a .0) w j (a .1) (a .2) (a .3) list-of (chosenCount w by) (list-is w) (count-is w) from to e r₁ stack₁ out₁ (d rules (ruled-now rules r) _ z) b
 
           pub arm-passed : (r₁ .how ≡ Back → ⊥) → Stops r₁ stack₁ out₁
           unfolding RunsTo
           arm-passed n = λ rules r t₀ p.
               let x = h .stands rules r t₀ p in
-              let z = inner-repr rules lists plain cs (h .bytes) (by .budget) levels (by .stored) (by .hints) (by .exact) t₀ out₀ stack out s i (ruled-now rules r) fits x
+              let z = inner-repr rules lists plain cs (h .bytes) (by .budget) levels (by .stored) (by .hints) (by .exact) t₀ stack out s i (ruled-now rules r) fits x
               (a .0) w j (a .1) (a .2) (a .3) list-of (chosenCount w by) (list-is w) (count-is w) from to e size q in
-              passed-on rules lists plain cs (h .bytes) (by .budget) levels (by .stored) (by .hints) (by .exact) t₀ out₀ stack out s i (ruled-now rules r) fits x
+              passed-on rules lists plain cs (h .bytes) (by .budget) levels (by .stored) (by .hints) (by .exact) t₀ stack out s i (ruled-now rules r) fits x
               (a .0) w j (a .1) (a .2) (a .3) list-of (chosenCount w by) (list-is w) (count-is w) from to e r₁ stack₁ out₁ (d rules (ruled-now rules r) _ z) n
 
   -- what is known once the token was looked at

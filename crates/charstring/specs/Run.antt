@@ -21,7 +21,7 @@ use Rattle.reading.specs.declared.Which.{Which}
 use Rattle.reading.specs.declared.Which.the-variants.{Local, Global}
 use Rattle.reading.specs.declared.Kind.the-variants.{Stem, Clear, Mask, Call, Return, End}
 use Rattle.charstring.specs.Words.{shortOf, stackOf}
-use Rattle.charstring.specs.WordsLaws.{Written, Beyond}
+use Rattle.charstring.specs.WordsLaws.{Written}
 use Rattle.charstring.specs.declared.charstring.Limits.{Limits}
 use Rattle.charstring.specs.declared.charstring.State.{State}
 use Rattle.charstring.specs.declared.charstring.Ending.{Ending}
@@ -142,12 +142,11 @@ howOf (Refused k) = stopped (numberOf k)
 -- ---- a run
 
 -- what a run of the code leaves, beside the reading's x
-pub record Done (rules : Rules) (limit : ℕ) (out stack₁ out₁ : List ℕ) (r : Ran) (x : Run) : Type 0 where
+pub record Done (rules : Rules) (limit : ℕ) (stack₁ out₁ : List ℕ) (r : Ran) (x : Run) : Type 0 where
   pub how : howOf (r .how) ≡ x .how
   pub tokens-are : length (x .state .shown) ≡ r .st .tokens
   pub length-is : length (flat (struck (x .state .shown))) ≡ r .st .length
   pub bytes : Written limit out₁ (flat (struck (x .state .shown)))
-  pub beyond : Beyond limit out out₁
   pub on : x .how ≡ back → Repr rules limit stack₁ out₁ (r .st) (x .state)
 
 -- the state stands for one of the reading, under some rules of these limits
@@ -158,7 +157,7 @@ Sound hints exact limit stack out s = (rules : Rules) × (Ruled rules (length st
 unfoldable pub RunsTo : List ℕ → List ℕ → List ℕ → Limits → State → List ℕ → List ℕ → ℕ → Ran → List ℕ → List ℕ → Type 0
 RunsTo cs globals locals by s stack out levels r stack₁ out₁ =
     (rules : Rules) → Ruled rules (length stack) (by .hints) (by .exact) → (t : Now) → Repr rules (by .stored) stack out s t
-    → Done rules (by .stored) out stack₁ out₁ r (read rules (listsOf 2 globals locals) (by .budget) levels cs t)
+    → Done rules (by .stored) stack₁ out₁ r (read rules (listsOf 2 globals locals) (by .budget) levels cs t)
 
 -- the list that a call names, and how many entries it has
 abbrev pub chosen : Which → List ℕ → List ℕ → List ℕ

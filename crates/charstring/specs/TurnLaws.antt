@@ -34,7 +34,7 @@ use Rattle.reading.specs.declared.Operator.{Operator}
 use Rattle.reading.specs.declared.Which.{Which}
 use Rattle.reading.specs.declared.Kind.the-variants.{Mask, Call, Return, End}
 use Rattle.charstring.specs.Words.{unpackOf, stackOf, puts, enterBy, aimBy, aimed, targetOf}
-use Rattle.charstring.specs.WordsLaws.{Written, Beyond, puts-append, puts-beyond, puts-written, written-cut, beyond-refl, beyond-trans, stack-length, stack-pushed, stack-last}
+use Rattle.charstring.specs.WordsLaws.{Written, puts-append, puts-written, written-cut, stack-length, stack-pushed, stack-last}
 use Rattle.charstring.specs.Run.{Ruled, Counts, Begun, AtOperator, Hinted, clears as Clearing, counts as Counting, Fixed, first, later, Refuses, tailOf, Repr, howOf, Done}
 use Rattle.charstring.specs.declared.charstring.State.{State}
 use Rattle.charstring.specs.declared.charstring.Ending.{Ending}
@@ -57,13 +57,12 @@ module _ (rules : Rules) (lists : Lists) (budget : ℕ) where
 
 -- ---- where the loop is
 
-pub record Here (rules : Rules) (lists : Lists) (cs : List ℕ) (budget levels limit : ℕ) (t₀ : Now) (out₀ stack out : List ℕ) (s : State) (i : ℕ) : Type 0 where
+pub record Here (rules : Rules) (lists : Lists) (cs : List ℕ) (budget levels limit : ℕ) (t₀ : Now) (stack out : List ℕ) (s : State) (i : ℕ) : Type 0 where
   pub fuel : ℕ
   pub enough : length (drop i cs) ≤ fuel
   pub now : Now
   pub repr : Repr rules limit stack out s now
   pub rest : read rules lists budget levels cs t₀ ≡ tokensOf rules lists budget levels (belowOf rules lists budget levels) (length cs) fuel (drop i cs) now
-  pub beyond : Beyond limit out₀ out
 
 tail-waits : (rules : Rules) (f : List Item) → tailOf f ≤ length (leftBy rules f .operands)
 unfolding tailOf leftBy leaves
@@ -100,13 +99,13 @@ module _ (rules : Rules) (limit : ℕ) (stack out : List ℕ) (s : State) (t : N
       let l = r .length-is in
       omega arith
 
-module _ (rules : Rules) (lists : Lists) (cs : List ℕ) (budget levels limit : ℕ) (t₀ : Now) (out₀ stack out : List ℕ) (s : State) (i : ℕ) where
+module _ (rules : Rules) (lists : Lists) (cs : List ℕ) (budget levels limit : ℕ) (t₀ : Now) (stack out : List ℕ) (s : State) (i : ℕ) where
   abbrev Loop : List ℕ → List ℕ → State → ℕ → Type 0
-  Loop stack₁ out₁ s₁ j = Here rules lists cs budget levels limit t₀ out₀ stack₁ out₁ s₁ j
+  Loop stack₁ out₁ s₁ j = Here rules lists cs budget levels limit t₀ stack₁ out₁ s₁ j
 
-  pub begin : limit ≤ length out → (t₁ : Now) → Repr rules limit stack out s t₁ → Here rules lists cs budget levels limit t₁ out stack out s 0
+  pub begin : limit ≤ length out → (t₁ : Now) → Repr rules limit stack out s t₁ → Here rules lists cs budget levels limit t₁ stack out s 0
   begin l t₁ r =
-      record { fuel = length cs; enough = le-refl (length cs); now = t₁; repr = r; rest = read-is rules lists budget levels cs t₁; beyond = beyond-refl limit out }
+      record { fuel = length cs; enough = le-refl (length cs); now = t₁; repr = r; rest = read-is rules lists budget levels cs t₁ }
 
   module _ (h : Loop stack out s i) where
     -- where the token at i stands, for a call
@@ -140,9 +139,9 @@ module _ (rules : Rules) (lists : Lists) (cs : List ℕ) (budget levels limit : 
 
     -- the token leads on to j
     pub goes-on : (j : ℕ) (t : Now) (stack₁ out₁ : List ℕ) (s₁ : State) → i < j → j ≤ length cs → stepped ≡ go (drop j cs) t
-        → Repr rules limit stack₁ out₁ s₁ t → Beyond limit out out₁ → Loop stack₁ out₁ s₁ j
+        → Repr rules limit stack₁ out₁ s₁ t → Loop stack₁ out₁ s₁ j
     unfolding after
-    goes-on j t stack₁ out₁ s₁ l m e r b =
+    goes-on j t stack₁ out₁ s₁ l m e r =
         let a = after-step (omega arith) in
         record {
           fuel = a .0;
@@ -150,7 +149,6 @@ module _ (rules : Rules) (lists : Lists) (cs : List ℕ) (budget levels limit : 
           now = t;
           repr = r;
           rest = a .1 .1 ∙ ap (after (λ more u. tokensOf rules lists budget levels below (length cs) (a .0) more u) below) e;
-          beyond = beyond-trans limit out₀ out out₁ (h .beyond) b;
         }
 
     -- the token ends the string
@@ -199,10 +197,6 @@ module _ (rules : Rules) (limit : ℕ) (stack out : List ℕ) (s : State) (t : N
   stored-written bs out₁ o =
       subst (λ (l : List ℕ). Written limit l (flat (struck (t .shown)) ++ bs)) (sym o)
       (puts-written limit (s .length) bs out (flat (struck (t .shown))) fits (r .length-is) (r .bytes))
-
-  -- storing changes nothing from the limit on
-  pub stored-beyond : (bs out₁ : List ℕ) → out₁ ≡ puts limit (s .length) bs out → Beyond limit out out₁
-  stored-beyond bs out₁ o = subst (Beyond limit out) (sym o) (puts-beyond limit (s .length) bs out)
 
 -- nothing on the stack
 none-on : (stack : List ℕ) (c : ℕ) → c ≡ 0 → [] ≡ stackOf stack c
@@ -301,10 +295,10 @@ found-by list levels tail (accepted n) p q =
 -- ---- the turns
 
 module _ (rules : Rules) (lists : Lists) (plain : Plain lists) (cs : List ℕ) (bytes : Bytes cs) (budget levels limit hints : ℕ) (exact : Bool)
-    (t₀ : Now) (out₀ stack out : List ℕ) (s : State) (i : ℕ) (ruled : Ruled rules (length stack) hints exact) (fits : limit ≤ length out)
-    (h : Here rules lists cs budget levels limit t₀ out₀ stack out s i) where
+    (t₀ : Now) (stack out : List ℕ) (s : State) (i : ℕ) (ruled : Ruled rules (length stack) hints exact) (fits : limit ≤ length out)
+    (h : Here rules lists cs budget levels limit t₀ stack out s i) where
   abbrev Turn : List ℕ → List ℕ → State → ℕ → Type 0
-  Turn stack₁ out₁ s₁ j = Here rules lists cs budget levels limit t₀ out₀ stack₁ out₁ s₁ j
+  Turn stack₁ out₁ s₁ j = Here rules lists cs budget levels limit t₀ stack₁ out₁ s₁ j
 
   abbrev at : ℕ
   at = length cs - length (drop i cs)
@@ -338,12 +332,11 @@ module _ (rules : Rules) (lists : Lists) (plain : Plain lists) (cs : List ℕ) (
       let more = stored-written rules limit stack out s (h .now) r fits (bs ++ others) out₁ d in
       let written = written-cut limit out₁ (f ++ bs) others (subst (Written limit out₁) (sym (append-assoc f bs others)) more) in
       subst (λ (y : State). Turn (set stack (s .count) w) out₁ y j) (sym same)
-      (goes-on rules lists cs budget levels limit t₀ out₀ stack out s i h j _ _ _ _ (b .ahead) (b .inside) (taken (b .within) _ g)
+      (goes-on rules lists cs budget levels limit t₀ stack out s i h j _ _ _ _ (b .ahead) (b .inside) (taken (b .within) _ g)
       (emitted rules limit stack out s (h .now) r fits (operand o) (pushed o (h .now .left)) (set stack (s .count) w) out₁ _ (led _ g .1) written
       (subst (λ (n : ℕ). s .count + 1 ≤ n) (sym (length-set stack (s .count) w)) (omega arith))
       (ap (λ (z : List Operand). o ∷ z) (r .ops) ∙ sym (stack-pushed stack w o (s .count) e l))
-      (r .hints-are) (r .hinted) (r .mask-is) refl (ap (λ (n : ℕ). n + 1) (sym (r .tail-is)) ∙ add-one _) refl)
-      (stored-beyond rules limit stack out s (h .now) r fits (bs ++ others) out₁ d))
+      (r .hints-are) (r .hinted) (r .mask-is) refl (ap (λ (n : ℕ). n + 1) (sym (r .tail-is)) ∙ add-one _) refl))
 
   -- ---- operators
 
@@ -358,10 +351,9 @@ module _ (rules : Rules) (lists : Lists) (plain : Plain lists) (cs : List ℕ) (
         → Turn stack out₁ (plainState h₁) j
     unfolding spelled tailOf stackOf
     plain-turn j h₁ x out₁ a g d ops hints hinted mask =
-        goes-on rules lists cs budget levels limit t₀ out₀ stack out s i h j _ _ _ _ (a .begun .ahead) (a .begun .inside) (taken (a .begun .within) _ g)
+        goes-on rules lists cs budget levels limit t₀ stack out s i h j _ _ _ _ (a .begun .ahead) (a .begun .inside) (taken (a .begun .within) _ g)
         (emitted rules limit stack out s (h .now) (h .repr) fits (plainly p) x stack out₁ (plainState h₁) (led _ g .1)
         (stored-written rules limit stack out s (h .now) (h .repr) fits (operatorBytes p) out₁ d) zero-le ops hints hinted mask refl refl refl)
-        (stored-beyond rules limit stack out s (h .now) (h .repr) fits (operatorBytes p) out₁ d)
 
     pub by-plain : (j h₁ : ℕ) (out₁ : List ℕ) (s₁ : State) → AtOperator cs i j (s .tokens) budget p → Hinted hints (s .count) (s .hints) p h₁
         → out₁ ≡ puts limit (s .length) (operatorBytes p) out → s₁ ≡ plainState h₁ → Turn stack out₁ s₁ j
@@ -402,11 +394,10 @@ module _ (rules : Rules) (lists : Lists) (plain : Plain lists) (cs : List ℕ) (
         let g₁ = subst (λ (y : List ℕ). Goes rules lists levels at (drop i cs) (h .now) (go y (shows (masked p m) fixedNow (h .now)))) behind
         (subst (λ (y : List ℕ). Goes rules lists levels at (drop i cs) (h .now) (go (drop n (drop a cs)) (shows (masked p y) fixedNow (h .now)))) items g) in
         let long : length m ≡ b - a = length-take-le (b - a) (drop a cs) (omega (arith, length-drop a cs)) in
-        goes-on rules lists cs budget levels limit t₀ out₀ stack out s i h b _ _ _ _ (let z = q .begun .ahead in omega arith) bn (taken (q .begun .within) _ g₁)
+        goes-on rules lists cs budget levels limit t₀ stack out s i h b _ _ _ _ (let z = q .begun .ahead in omega arith) bn (taken (q .begun .within) _ g₁)
         (emitted rules limit stack out s (h .now) (h .repr) fits (masked p m) fixedNow stack out₁ (maskState c h₁ (b - a)) (led _ g₁ .1)
         (stored-written rules limit stack out s (h .now) (h .repr) fits (operatorBytes p ++ m) out₁ d) room ops hs most ms refl refl
         (let e = length-append (operatorBytes p) m in omega arith))
-        (stored-beyond rules limit stack out s (h .now) (h .repr) fits (operatorBytes p ++ m) out₁ d)
 
     pub by-mask : (a b c h₁ : ℕ) (out₁ out₂ : List ℕ) (s₁ : State) → AtOperator cs i a (s .tokens) budget p → type2 p ≡ Mask → h₁ ≤ hints → a ≤ b → b ≤ length cs
         → Fixed (s .count) (s .hints) (s .mask) c h₁ (b - a)
@@ -442,10 +433,10 @@ module _ (rules : Rules) (lists : Lists) (plain : Plain lists) (cs : List ℕ) (
   whole = read rules lists budget levels cs t₀
 
   abbrev pub Ends-with : Ran → List ℕ → List ℕ → Type 0
-  Ends-with r stack₁ out₁ = Done rules limit out₀ stack₁ out₁ r whole
+  Ends-with r stack₁ out₁ = Done rules limit stack₁ out₁ r whole
 
   -- the state is as it was before the token
-  stays : (e : Ending) (x : Run) → howOf e ≡ x .how → x .state ≡ h .now → Done rules limit out₀ stack out (record { how = e; st = s }) x
+  stays : (e : Ending) (x : Run) → howOf e ≡ x .how → x .state ≡ h .now → Done rules limit stack out (record { how = e; st = s }) x
   stays e x q n =
       let r = h .repr in
       record {
@@ -453,18 +444,17 @@ module _ (rules : Rules) (lists : Lists) (plain : Plain lists) (cs : List ℕ) (
         tokens-are = ap (λ (y : Now). length (y .shown)) n ∙ r .tokens-are;
         length-is = ap (λ (y : Now). length (flat (struck (y .shown)))) n ∙ r .length-is;
         bytes = subst (λ (y : Now). Written limit out (flat (struck (y .shown)))) (sym n) (r .bytes);
-        beyond = h .beyond;
         on = λ z. subst (Repr rules limit stack out s) (sym n) r;
       }
 
   pub by-out : length cs ≤ i → Ends-with (record { how = Back; st = s }) stack out
   by-out l =
-      let e = runs-out rules lists cs budget levels limit t₀ out₀ stack out s i h l in
+      let e = runs-out rules lists cs budget levels limit t₀ stack out s i h l in
       stays Back whole (sym (ap (λ (x : Run). x .how) e)) (ap (λ (x : Run). x .state) e)
 
   stops : (k : Refusal) → i < length cs → step rules lists levels at budget (drop i cs) (h .now) ≡ refuse (numberOf k) (h .now) → Ends-with (record { how = Refused k; st = s }) stack out
   stops k l q =
-      let e = halts rules lists cs budget levels limit t₀ out₀ stack out s i h l (stopped (numberOf k)) (h .now) q in
+      let e = halts rules lists cs budget levels limit t₀ stack out s i h l (stopped (numberOf k)) (h .now) q in
       stays (Refused k) whole (sym (ap (λ (x : Run). x .how) e)) (ap (λ (x : Run). x .state) e)
 
   pub by-bad : (k : Refusal) → Refuses cs i budget (length stack) hints (s .tokens) (s .count) (s .hints) (s .mask) (numberOf k) → Ends-with (record { how = Refused k; st = s }) stack out
@@ -478,7 +468,7 @@ module _ (rules : Rules) (lists : Lists) (plain : Plain lists) (cs : List ℕ) (
   by-return p j a k =
       let g = returns p (drop j cs) (a .cut-is) (ruled .kinds p ∙ k) in
       let b = a .begun in
-      let e = halts rules lists cs budget levels limit t₀ out₀ stack out s i h (omega (arith, b .ahead, b .inside)) _ _ (taken (b .within) _ g) in
+      let e = halts rules lists cs budget levels limit t₀ stack out s i h (omega (arith, b .ahead, b .inside)) _ _ (taken (b .within) _ g) in
       let r = h .repr in
       let t : Now = record { left = h .now .left; shown = return ∷ h .now .shown; within = h .now .within } in
       let same : whole .state ≡ t = ap (λ (x : Run). x .state) e in
@@ -500,7 +490,6 @@ module _ (rules : Rules) (lists : Lists) (plain : Plain lists) (cs : List ℕ) (
         tokens-are = ap (λ (y : Now). length (y .shown)) same ∙ back-now .tokens-are;
         length-is = ap (λ (y : Now). length (flat (struck (y .shown)))) same ∙ r .length-is;
         bytes = subst (λ (y : Now). Written limit out (flat (struck (y .shown)))) (sym same) (r .bytes);
-        beyond = h .beyond;
         on = λ z. subst (Repr rules limit stack out returnState) (sym same) back-now;
       }
 
@@ -511,7 +500,7 @@ module _ (rules : Rules) (lists : Lists) (plain : Plain lists) (cs : List ℕ) (
   by-end p j out₁ s₁ a k l d tk ln =
       let g = ends p (drop j cs) (a .cut-is) (ruled .kinds p ∙ k) (subst (λ (n : ℕ). n < 4) (sym (counted-as .count-is)) l) in
       let b = a .begun in
-      let e = halts rules lists cs budget levels limit t₀ out₀ stack out s i h (omega (arith, b .ahead, b .inside)) _ _ (taken (b .within) _ g) in
+      let e = halts rules lists cs budget levels limit t₀ stack out s i h (omega (arith, b .ahead, b .inside)) _ _ (taken (b .within) _ g) in
       let r = h .repr in
       let f = flat (struck (h .now .shown)) in
       let same : whole .state ≡ shows (plainly p) (h .now .left) (h .now) = ap (λ (x : Run). x .state) e in
@@ -521,7 +510,6 @@ module _ (rules : Rules) (lists : Lists) (plain : Plain lists) (cs : List ℕ) (
         length-is = ap (λ (y : Now). length (flat (struck (y .shown)))) same ∙ (let q = r .length-is in let z : length (f ++ operatorBytes p) ≡ s₁ .length = omega (arith, length-append f (operatorBytes p)) in z);
         bytes = subst (λ (y : Now). Written limit out₁ (flat (struck (y .shown)))) (sym same)
             (subst (λ (o : List ℕ). Written limit o (f ++ operatorBytes p)) (sym d) (puts-written limit (s .length) (operatorBytes p) out f fits (r .length-is) (r .bytes)));
-        beyond = beyond-trans limit out₀ out out₁ (h .beyond) (stored-beyond rules limit stack out s (h .now) r fits (operatorBytes p) out₁ d);
         on = λ z. absurd (ended-not-back (sym (ap (λ (x : Run). x .how) e) ∙ z));
       }
 
@@ -645,7 +633,7 @@ module _ (rules : Rules) (lists : Lists) (plain : Plain lists) (cs : List ℕ) (
         unfolding after
         entered =
             let b = a .begun in
-            let x = after-step rules lists cs budget levels limit t₀ out₀ stack out s i h (omega (arith, b .ahead, b .inside)) in
+            let x = after-step rules lists cs budget levels limit t₀ stack out s i h (omega (arith, b .ahead, b .inside)) in
             let on : Now → Run = λ y. tokensOf rules lists budget levels (belowOf rules lists budget levels) (length cs) (x .0) (drop j cs) y in (
               x .0,
               (
@@ -655,7 +643,7 @@ module _ (rules : Rules) (lists : Lists) (plain : Plain lists) (cs : List ℕ) (
               ),
             )
 
-        module _ (r : Ran) (stack₁ out₁ : List ℕ) (d : Done rules limit out stack₁ out₁ r below-run) where
+        module _ (r : Ran) (stack₁ out₁ : List ℕ) (d : Done rules limit stack₁ out₁ r below-run) where
           -- it came back, and the caller goes on
           pub came-back : r .how ≡ Back → Turn stack₁ out₁ (r .st) j
           unfolding resume
@@ -670,7 +658,6 @@ module _ (rules : Rules) (lists : Lists) (plain : Plain lists) (cs : List ℕ) (
                 now = closed (below-run .state);
                 repr = repr-closed rules limit stack₁ out₁ (r .st) (below-run .state) q;
                 rest = x .1 .1 ∙ ap (resume (λ y. tokensOf rules lists budget levels (belowOf rules lists budget levels) (length cs) (x .0) (drop j cs) y) below-run) is-back;
-                beyond = beyond-trans limit out₀ out out₁ (h .beyond) (d .beyond);
               }
 
           -- it ended everything, or was refused
@@ -678,5 +665,5 @@ module _ (rules : Rules) (lists : Lists) (plain : Plain lists) (cs : List ℕ) (
           passed-on n =
               let x = entered in
               let same : whole ≡ below-run = x .1 .1 ∙ resume-stays _ below-run (λ z. n (how-back (r .how) (d .how ∙ z))) in
-              subst (λ (y : Run). Done rules limit out₀ stack₁ out₁ r y) (sym same)
-              (record { how = d .how; tokens-are = d .tokens-are; length-is = d .length-is; bytes = d .bytes; beyond = beyond-trans limit out₀ out out₁ (h .beyond) (d .beyond); on = d .on })
+              subst (λ (y : Run). Done rules limit stack₁ out₁ r y) (sym same)
+              (record { how = d .how; tokens-are = d .tokens-are; length-is = d .length-is; bytes = d .bytes; on = d .on })

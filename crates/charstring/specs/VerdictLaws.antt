@@ -7,6 +7,7 @@ use native.Mathlib.Nat.{lt-of-le-of-lt}
 use native.Mathlib.Omega.{arith}
 use lib.Dec.{leb, lit≤}
 use lib.ListN.{length, take, drop}
+use lib.Seq.{length-take-le, take-all}
 use borrow.Author.Tests.{le-leb, lt-leb}
 use Rattle.number.specs.Answer.{Answer, accepted, refused}
 use Rattle.index.specs.Index.{extent}
@@ -14,7 +15,6 @@ use Rattle.reading.specs.Rules.{Rules, rulesOf}
 use Rattle.reading.specs.Lists.{countIn, listsOf}
 use Rattle.reading.specs.Items.{leftBy}
 use Rattle.reading.specs.Reading.{struck, start, Ending as How, back, ended, stopped, Run, tokensBy, tokens, reading}
-use Rattle.reading.specs.BudgetLaws.{Accepted}
 use Rattle.reading.specs.ValidLaws.{none}
 use Rattle.reading.specs.Flat.{flat}
 use Rattle.reading.specs.Answers.{Flattening, Outcome, flatOf, verdictBy, verdict, placed, outcome, numberOf}
@@ -22,9 +22,9 @@ use Rattle.reading.specs.declared.Profile.{Profile}
 use Rattle.reading.specs.declared.Profile.the-variants.{Plain, Strict}
 use Rattle.reading.specs.declared.Refusal.{Refusal}
 use Rattle.charstring.specs.Words.{stackOf}
-use Rattle.charstring.specs.WordsLaws.{Written, written-none, written-whole, written-take, written-less}
+use Rattle.charstring.specs.WordsLaws.{Written, written-none, written-take, written-less}
 use Rattle.charstring.specs.Run.{Ruled, tailOf, Repr, howOf, Done, Sound, Setting, RunsTo}
-use Rattle.charstring.specs.Verdicts.{flat-of, stopped-by, verdictOf, measureOf, Holds, filled}
+use Rattle.charstring.specs.Verdicts.{flat-of, stopped-by, verdictOf, measureOf}
 use Rattle.charstring.specs.declared.charstring.Limits.{Limits}
 use Rattle.charstring.specs.declared.charstring.State.{State}
 use Rattle.charstring.specs.declared.charstring.Ending.the-variants.{Back, Ended, Refused}
@@ -79,7 +79,7 @@ module _ (p : Profile) (limit : ℕ) (stack out : List ℕ) (full : length stack
 
     module _ (cs : List ℕ) (levels : ℕ) (r : Ran) (stack₁ out₁ : List ℕ) (levels-are : levels ≡ rulesOf p .depth - 1) (runs : RunsTo cs globals locals by s stack out levels r stack₁ out₁) where
       -- the run of the code is the reading's
-      pub done : Done (rulesOf p) limit out stack₁ out₁ r (reading (rulesOf p) (listsOf 2 globals locals) budget cs)
+      pub done : Done (rulesOf p) limit stack₁ out₁ r (reading (rulesOf p) (listsOf 2 globals locals) budget cs)
       unfolding RunsTo reading
       done =
           subst (λ (l : ℕ). RunsTo cs globals locals (limitsOf p budget limit globals locals) begun stack out l r stack₁ out₁) levels-are
@@ -89,7 +89,7 @@ module _ (p : Profile) (limit : ℕ) (stack out : List ℕ) (full : length stack
 
 -- ---- the verdict
 
-module _ (rules : Rules) (limit : ℕ) (out stack₁ out₁ : List ℕ) (r : Ran) (x : Run) (d : Done rules limit out stack₁ out₁ r x) where
+module _ (rules : Rules) (limit : ℕ) (stack₁ out₁ : List ℕ) (r : Ran) (x : Run) (d : Done rules limit stack₁ out₁ r x) where
   flat-by : (e : How) → x .how ≡ e → tokensBy (length (x .state .shown)) e ≡ length (x .state .shown) → verdictOf x e ≡ flat-of (length (flatOf x)) (tokens x)
       → flat-of (r .st .length) (r .st .tokens) ≡ measureOf x
   flat-by e h t v =
@@ -119,13 +119,6 @@ module _ (rules : Rules) (limit : ℕ) (out stack₁ out₁ : List ℕ) (r : Ran
     pub few-tokens : (budget : ℕ) → tokens x ≤ budget → budget < 4294967296 → tokensBy (r .st .tokens) (stopped (numberOf k)) < 4294967296
     few-tokens budget l h = subst (λ (n : ℕ). n < 4294967296) tokens-is (lt-of-le-of-lt l h)
 
--- the room that the second run leaves
-pub filled-by : (rules : Rules) (n : ℕ) (out stack₁ out₁ : List ℕ) (r : Ran) (x : Run) → Done rules n out stack₁ out₁ r x → Holds n (length out) x → length out₁ ≡ length out → out₁ ≡ filled x out
-unfolding filled
-filled-by rules n out stack₁ out₁ r x d h l =
-    written-whole n out₁ (flatOf x) (d .bytes) (sym (h .size)) out (let a = h .fits in omega arith) (d .beyond) l
-    ∙ ap (λ (m : ℕ). flatOf x ++ drop m out) (h .size)
-
 -- ---- the outcome
 
 abbrev pub told : Answer Flattening → List ℕ → Outcome
@@ -150,7 +143,6 @@ module _ (out : List ℕ) (x : Run) where
 
   module _ (n t : ℕ) (e : flat-of n t ≡ measureOf x) where
     record Is : Type 0 where
-      ends : Accepted (x .how)
       size : n ≡ length (flatOf x)
       count : t ≡ tokens x
       answers : (room : ℕ) → verdict room x ≡ cond (leb (length (flatOf x)) room) (accepted (record { size = length (flatOf x); tokens = tokens x })) (refused 13 (length (flatOf x) ∷ tokens x ∷ []))
@@ -160,8 +152,8 @@ module _ (out : List ℕ) (x : Run) where
     is = go (x .how) refl e
       where
         go : (h : How) → x .how ≡ h → flat-of n t ≡ verdictOf x h → Is
-        go back q v = record { ends = subst Accepted (sym q) tt; size = cc; count = cc; answers = λ room. ap (verdictBy room x) q }
-        go ended q v = record { ends = subst Accepted (sym q) tt; size = cc; count = cc; answers = λ room. ap (verdictBy room x) q }
+        go back q v = record { size = cc; count = cc; answers = λ room. ap (verdictBy room x) q }
+        go ended q v = record { size = cc; count = cc; answers = λ room. ap (verdictBy room x) q }
         go (stopped m) q v = let w : _≡_ {A = ℕ} 0 1 = cc in absurd (omega arith)
 
     pub by-short : length out < n → Answers (refused 13 (n ∷ t ∷ [])) out
@@ -171,23 +163,22 @@ module _ (out : List ℕ) (x : Run) where
         let a : verdict (length out) x ≡ refused 13 (n ∷ t ∷ []) = i .answers (length out) ∙ rw (lt-leb (length (flatOf x)) (length out) (let s = i .size in omega arith), ← i .size, ← i .count) in
         sym (ap (λ (y : Answer Flattening). told y (placed (flatOf x) out y)) a)
 
-    pub by-flat : n ≤ length out → (l : List ℕ) → l ≡ filled x out → Answers (accepted (record { size = n; tokens = t })) l
-    unfolding outcome placed filled
+    by-flat : n ≤ length out → (l : List ℕ) → l ≡ flatOf x ++ drop n out → Answers (accepted (record { size = n; tokens = t })) l
+    unfolding outcome placed
     by-flat h l q =
         let i = is in
         let a : verdict (length out) x ≡ accepted (record { size = n; tokens = t }) = i .answers (length out) ∙ rw (le-leb (length (flatOf x)) (length out) (let s = i .size in omega arith), ← i .size, ← i .count) in
-        ap (told (accepted (record { size = n; tokens = t }))) q
+        ap (told (accepted (record { size = n; tokens = t }))) (q ∙ ap (λ (m : ℕ). flatOf x ++ drop m out) (i .size))
         ∙ sym (ap (λ (y : Answer Flattening). told y (placed (flatOf x) out y)) a)
 
-    -- the flat string was held, and is copied
+    -- the flat string was held, and its n bytes are copied
     pub by-held : n ≤ length out → (limit : ℕ) (m : List ℕ) → Written limit m (flatOf x) → n ≤ limit → n ≤ length m → (l : List ℕ) → l ≡ take n m ++ drop n out
         → Answers (accepted (record { size = n; tokens = t })) l
-    unfolding filled
     by-held h limit m w k r l q =
-        let size = is .size in
-        by-flat h l
-        (q ∙ ap (λ (f : List ℕ). f ++ drop n out) (written-take n m (flatOf x) (written-less limit n m (flatOf x) k w) (sym size) r)
-        ∙ ap (λ (j : ℕ). flatOf x ++ drop j out) size)
+        by-flat h l (q ∙ ap (λ (f : List ℕ). f ++ drop n out) (written-take n m (flatOf x) (written-less limit n m (flatOf x) k w) (sym (is .size)) r))
 
-    pub held : (room : ℕ) → n ≤ room → Holds n room x
-    held room h = record { accepted-run = is .ends; size = is .size; fits = h }
+    -- it was written to the first n bytes of the room
+    pub by-part : n ≤ length out → (m : List ℕ) → Written (length (take n out)) m (flatOf x) → length m ≡ length (take n out) → Answers (accepted (record { size = n; tokens = t })) (m ++ drop n out)
+    by-part h m w e =
+        let z : length (take n out) ≡ n = length-take-le n out h in
+        by-held h (length (take n out)) m w (omega arith) (omega arith) _ (ap (λ (f : List ℕ). f ++ drop n out) (sym (take-all n m (omega arith))))

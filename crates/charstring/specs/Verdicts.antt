@@ -1,10 +1,7 @@
--- The verdict of a run whatever the room, and the room that a second run leaves.
-use mathlib.Core.Path.{_≡_}
-use mathlib.Core.List.{List, _++_}
-use Prim.Native.Nat.{ℕ, _≤_}
-use lib.ListN.{length, drop}
+-- The verdict of a run whatever the room.
+use Prim.Native.Nat.{ℕ}
+use lib.ListN.{length}
 use Rattle.reading.specs.Reading.{Ending, back, ended, stopped, Run, tokens}
-use Rattle.reading.specs.BudgetLaws.{Accepted}
 use Rattle.reading.specs.Answers.{flatOf, numberOf}
 use Rattle.charstring.specs.declared.flattening.Measured.{Measured}
 use Rattle.charstring.specs.declared.flattening.Measured.the-variants.{Flat, Stopped}
@@ -25,12 +22,3 @@ measureOf r = verdictOf r (r .how)
 abbrev pub measured : Measured → Verdict
 measured (Flat n t) = flat-of n t
 measured (Stopped k t) = stopped-by (numberOf k) t
-
--- an accepted run, its length, and room for it
-pub record Holds (n room : ℕ) (r : Run) : Type 0 where
-  pub accepted-run : Accepted (r .how)
-  pub size : n ≡ length (flatOf r)
-  pub fits : n ≤ room
-
-unfoldable pub filled : Run → List ℕ → List ℕ
-filled r out = flatOf r ++ drop (length (flatOf r)) out

@@ -160,15 +160,6 @@ pub beyond-refl : (limit : ℕ) (l : List ℕ) → Beyond limit l l
 unfolding Beyond
 beyond-refl limit l k h = refl
 
-pub beyond-trans : (limit : ℕ) (a b c : List ℕ) → Beyond limit a b → Beyond limit b c → Beyond limit a c
-unfolding Beyond
-beyond-trans limit a b c p q k h = q k h ∙ p k h
-
--- nothing is touched under the limit 0
-pub untouched : (l₀ l : List ℕ) → Beyond 0 l₀ l → length l ≡ length l₀ → l ≡ l₀
-unfolding Beyond
-untouched l₀ l b s = ext-getD 0 l l₀ s (λ k h. b k zero-le)
-
 -- ---- all n bytes are written
 
 module _ (n : ℕ) (l f : List ℕ) (w : Written n l f) (e : length f ≡ n) where

@@ -21,7 +21,7 @@ ghost use Rattle.reading.specs.Lists.{countIn, listsOf};
 ghost use Rattle.reading.specs.Reading.{stopped, tokensBy, reading};
 ghost use Rattle.reading.specs.Answers.{numberOf, flatOf, flattened, outcome, flattening};
 ghost use Rattle.charstring.specs.WordsLaws.{Written};
-ghost use Rattle.charstring.specs.Verdicts.{measured, measureOf, Holds, filled};
+ghost use Rattle.charstring.specs.Verdicts.{measured, measureOf};
 
 // A charstring's verdict, whatever the room.
 pub enum Measured {
@@ -71,10 +71,10 @@ pub fn write<'a>(
             if out.len() < n {
                 return Flattened::Short(n, tokens);
             }
-            if n <= 2048 {
+            if n <= held.len() {
                 keep(out, n, &held);
             } else {
-                fill(cs, globals, locals, profile, budget, n, out);
+                draft(cs, globals, locals, profile, budget, &mut out[..n]);
             }
             Flattened::Accepted(n, tokens)
         }
@@ -134,33 +134,6 @@ fn keep(out: &mut [u8], n: usize, held: &[u8])
     ensures { λ _. ⌜ now (out .exit) ≡ take n (now (held .entry)) ++ drop n (now (out .entry)) ⌝ }
 {
     put_bytes(out, n, 0, &held[0..n]);
-}
-
-// The second run, which stores the n bytes of a flat string that was measured.
-fn fill<'a>(
-    cs: &'a [u8],
-    globals: &'a [u8],
-    locals: &'a [u8],
-    profile: Profile,
-    budget: u32,
-    n: usize,
-    out: &mut [u8],
-)
-    requires { ⌜ Holds n (length (now out)) (reading (rulesOf profile) (listsOf 2 (now globals) (now locals)) budget (now cs)) ⌝ }
-    ensures { λ _. ⌜ now (out .exit) ≡ filled (reading (rulesOf profile) (listsOf 2 (now (globals .entry)) (now (locals .entry))) budget (now (cs .entry))) (now (out .entry)) ⌝ }
-{
-    let by = limits_of(profile, budget, globals, locals, n);
-    let mut stack = [0u64; 48];
-    run(
-        cs,
-        globals,
-        locals,
-        by,
-        begun(),
-        &mut stack,
-        out,
-        levels_of(profile),
-    );
 }
 
 // The state before the first token.

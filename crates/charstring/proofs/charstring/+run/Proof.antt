@@ -191,7 +191,7 @@ run-loop-holds t c =
       refl,
       refl,
       λ rules r t₀ p. begin rules (listsOf 2 (args .globals .now) (args .locals .now)) (args .cs .now) (args .by .budget) (args .levels)
-          (args .by .stored) t₀ (args .out .now) (args .stack .now) (args .out .now) (args .s) 0
+          (args .by .stored) t₀ (args .stack .now) (args .out .now) (args .s) 0
           (c .before .before .before .before .before .pre .1 .0 .stored) t₀ p,
     )
 

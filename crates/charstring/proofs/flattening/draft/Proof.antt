@@ -14,7 +14,7 @@ use Rattle.charstring.proofs.flattening.draft.Tie as tie
 -- the run is the reading's
 ran : (c : tie.After-run)
     → let args = c .before .before .before .before .before .before .before .before .before .before .args in
-    Done (rulesOf (args .profile)) (length (args .held .now)) (args .held .now) (c .run .last .1 .1 .1 .1 .1 .0) (c .run .last .1 .1 .1 .1 .1 .1 .0)
+    Done (rulesOf (args .profile)) (length (args .held .now)) (c .run .last .1 .1 .1 .1 .1 .0) (c .run .last .1 .1 .1 .1 .1 .1 .0)
     (c .run .result) (reading (rulesOf (args .profile)) (listsOf 2 (args .globals .now) (args .locals .now)) (args .budget) (args .cs .now))
 ran c =
     let args = c .before .before .before .before .before .before .before .before .before .before .args in
@@ -50,7 +50,7 @@ enum-known-how c = search needs
 
 counted-requires : tie.Need-counted-requires
 counted-requires c κs =
-    few-tokens _ _ _ _ _ _ _ (ran (c .before .before .before .before .before .before .before)) _ (c .before .how .given .1)
+    few-tokens _ _ _ _ _ _ (ran (c .before .before .before .before .before .before .before)) _ (c .before .how .given .1)
     (c .before .before .before .before .before .before .before .before .before .before .before .before .before .before .before .before .before .args .budget)
     (tokens-budget _ _ _ _)
     (c .before .before .before .before .before .before .before .before .before .before .before .before .before .before .before .before .before .fits .budget .fits)
@@ -59,19 +59,19 @@ same-length : tie.Need-same-length
 same-length c = search needs
 
 returns : tie.Need-returns
-returns c = let d = ran (c .before .before .before .before .before .before) in (came-back _ _ _ _ _ _ _ d (c .enum-told .given .1), d .bytes)
+returns c = let d = ran (c .before .before .before .before .before .before) in (came-back _ _ _ _ _ _ d (c .enum-told .given .1), d .bytes)
 
 same-length-2 : tie.Need-same-length-2
 same-length-2 c = search needs
 
 returns-2 : tie.Need-returns-2
-returns-2 c = let d = ran (c .before .before .before .before .before .before) in (all-ended _ _ _ _ _ _ _ d (c .enum-told2 .given .1), d .bytes)
+returns-2 c = let d = ran (c .before .before .before .before .before .before) in (all-ended _ _ _ _ _ _ d (c .enum-told2 .given .1), d .bytes)
 
 same-length-3 : tie.Need-same-length-3
 same-length-3 c = search needs
 
 returns-3 : tie.Need-returns-3
-returns-3 c = let d = ran (c .before .before .before .before .before .before .before .before) in (was-stopped _ _ _ _ _ _ _ d _ (c .before .before .how .given .1) _ (c .counted .ensures), d .bytes)
+returns-3 c = let d = ran (c .before .before .before .before .before .before .before .before) in (was-stopped _ _ _ _ _ _ d _ (c .before .before .how .given .1) _ (c .counted .ensures), d .bytes)
 
 pub draft-spec : {M : Type 1} → statement M
 draft-spec =

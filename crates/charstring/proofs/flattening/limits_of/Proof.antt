@@ -15,7 +15,7 @@ count-of-requires-2 : tie.Need-count-of-requires-2
 count-of-requires-2 c κs = search needs
 
 returns : tie.Need-returns
-returns c = let a = c .before .before .before .hints-of .ensures in let b = c .before .before .exact-of .ensures in let d = c .before .count-of .ensures in let e = c .count-of2 .ensures in cc
+returns c = rw (c .before .before .before .hints-of .ensures, c .before .before .exact-of .ensures, c .before .count-of .ensures, c .count-of2 .ensures)
 
 pub limits-of-spec : {M : Type 1} → statement M
 limits-of-spec =

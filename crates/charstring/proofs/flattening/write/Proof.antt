@@ -1,7 +1,8 @@
-use Rattle.charstring.specs.VerdictLaws.{by-stop, by-short, by-flat, by-held, held}
+use Rattle.charstring.specs.VerdictLaws.{by-stop, by-short, by-held, by-part}
 use Rattle.charstring.specs.Verdicts.{measured}
 use mathlib.Core.Path.{sym, ap, _∙_}
 use native.Mathlib.Omega.{arith}
+use lib.Seq.{length-take-le}
 use borrow.Author.Needs.{needs}
 use Rattle.charstring.proofs.flattening.write.Statement.{statement}
 use Rattle.charstring.proofs.flattening.write.Tie as tie
@@ -27,11 +28,14 @@ slice-aggregate-keep c = search needs
 keep-requires : tie.Need-keep-requires
 keep-requires c κs = search needs
 
-fill-requires : tie.Need-fill-requires
-fill-requires c κs =
-    held (c .before .before .before .before .before .before .before .before .before .before .before .before .before .args .out .now) _ _ _ (ap
-    measured (sym (c .before .before .before .before .n .given .1)) ∙ c .before .before .before .before .before .before .before .draft .ensures .0) _
-    (c .before .before .if1 .left)
+slice-relend-prefix-draft : tie.Need-slice-relend-prefix-draft
+slice-relend-prefix-draft c = search needs
+
+slice-aggregate-draft-2 : tie.Need-slice-aggregate-draft-2
+slice-aggregate-draft-2 c = sym (length-take-le _ _ (c .before .before .if1 .left))
+
+draft-requires-2 : tie.Need-draft-requires-2
+draft-requires-2 c κs = search needs
 
 returns-2 : tie.Need-returns-2
 returns-2 c = by-stop _ _ _ _ (ap measured (sym (c .before .k .given .1)) ∙ c .before .before .before .before .draft .ensures .0)
@@ -51,9 +55,9 @@ same-length-2 c = search needs
 
 returns-4 : tie.Need-returns-4
 returns-4 c =
-    by-flat _ _ _ _ (ap measured (sym (c .before .before .before .before .before .before .before .n .given .1)) ∙
+    by-part _ _ _ _ (ap measured (sym (c .before .before .before .before .before .before .before .n .given .1)) ∙
     c .before .before .before .before .before .before .before .before .before .before .draft .ensures .0)
-    (c .before .before .before .before .before .if1 .left) _ (c .before .before .fill .ensures)
+    (c .before .before .before .before .before .if1 .left) _ (c .before .before .draft2 .ensures .1) (c .before .before .draft2 .kept .1 .1 .1 .1 .1 .0)
 
 pub write-spec : {M : Type 1} → statement M
 write-spec =
@@ -66,7 +70,9 @@ write-spec =
     returns
     slice-aggregate-keep
     keep-requires
-    fill-requires
+    slice-relend-prefix-draft
+    slice-aggregate-draft-2
+    draft-requires-2
     returns-2
     same-length
     returns-3
