@@ -4,6 +4,7 @@ use mathlib.Core.Bool.{true, false}
 use mathlib.Core.List.{List, [], _∷_, _++_}
 use Prim.Native.Nat.{ℕ, _+_, _%_, _<_, _^_}
 use lib.ListN.{length}
+use lib.Seq.{sets}
 use lib.Signed.{mag}
 use Rattle.number.specs.Signed.{unsigned}
 use Rattle.number.specs.SignedLaws.{unsigned-lt}
@@ -12,24 +13,18 @@ use Rattle.number.specs.Written.{spelling}
 use Rattle.number.specs.declared.Operand.{Operand}
 use Rattle.reading.specs.Flat.{operatorBytes}
 use Rattle.reading.specs.declared.Operator.{Operator}
-use Rattle.charstring.specs.Words.{puts}
-use Rattle.charstring.specs.WordsLaws.{puts-append}
+use Rattle.charstring.specs.WordsLaws.{sets-append}
 use Rattle.charstring.specs.Short.{integerBytes, integer-bytes, fixed-bytes}
 
-module _ (limit at : ℕ) (l : List ℕ) where
-  pub stored-none : l ≡ puts limit at [] l
-  unfolding puts
-  stored-none = refl
-
+module _ (l : List ℕ) (at : ℕ) where
   -- some bytes, and others behind them
-  pub stored-then : (xs ys : List ℕ) {n : ℕ} {l₁ l₂ : List ℕ} → l₁ ≡ puts limit at xs l → n ≡ at + length xs → l₂ ≡ puts limit n ys l₁ → l₂ ≡ puts limit at (xs ++ ys) l
+  pub stored-then : (xs ys : List ℕ) {n : ℕ} {l₁ l₂ : List ℕ} → l₁ ≡ sets l at xs → n ≡ at + length xs → l₂ ≡ sets l₁ n ys → l₂ ≡ sets l at (xs ++ ys)
   stored-then xs ys {l₁ = l₁} e m f =
-      f ∙ ap (λ (k : ℕ). puts limit k ys l₁) m ∙ ap (puts limit (at + length xs) ys) e ∙ sym (puts-append limit at xs ys l)
+      f ∙ ap (λ (k : ℕ). sets l₁ k ys) m ∙ ap (λ (y : List ℕ). sets y (at + length xs) ys) e ∙ sym (sets-append l at xs ys)
 
   -- the same bytes by another name
-  pub stored-as : {bs cs : List ℕ} {n : ℕ} {l₁ : List ℕ} → bs ≡ cs → n ≡ at + length bs → l₁ ≡ puts limit at bs l
-      → (n ≡ at + length cs) × (l₁ ≡ puts limit at cs l)
-  stored-as e m f = (m ∙ ap (λ (x : List ℕ). at + length x) e, f ∙ ap (λ (x : List ℕ). puts limit at x l) e)
+  pub stored-as : {bs cs : List ℕ} {n : ℕ} {l₁ : List ℕ} → bs ≡ cs → n ≡ at + length bs → l₁ ≡ sets l at bs → (n ≡ at + length cs) × (l₁ ≡ sets l at cs)
+  stored-as e m f = (m ∙ ap (λ (x : List ℕ). at + length x) e, f ∙ ap (sets l at) e)
 
 module _ (p : Operator) where
   pub escaped-bytes : p .escaped ≡ true → 12 ∷ p .byte ∷ [] ≡ operatorBytes p

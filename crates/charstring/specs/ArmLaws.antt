@@ -6,7 +6,7 @@ use Prim.Native.Nat.{ℕ, _+_, _-_, _*_, _≤_, _<_}
 use native.Mathlib.Nat.{le-refl, mul-le-mul}
 use native.Mathlib.Omega.{arith}
 use lib.ListN.{length, getD, set, take, drop, length-drop}
-use lib.Seq.{length-take-le}
+use lib.Seq.{sets, length-take-le}
 use Rattle.number.specs.Number.{charstringRows}
 use Rattle.number.specs.Written.{spelling}
 use Rattle.number.specs.declared.Operand.{Operand}
@@ -23,7 +23,7 @@ use Rattle.reading.specs.declared.Operator.{Operator}
 use Rattle.reading.specs.declared.Refusal.{Refusal}
 use Rattle.reading.specs.declared.Which.{Which}
 use Rattle.reading.specs.declared.Which.the-variants.{Local, Global}
-use Rattle.charstring.specs.Words.{shortOf, unpackOf, puts, aimed, targetOf, Inside}
+use Rattle.charstring.specs.Words.{shortOf, unpackOf, aimed, targetOf, Inside}
 use Rattle.charstring.specs.Run.{Ruled, Looked, Repr, Done, Sound, RunsTo, chosen, chosenCount, Setting}
 use Rattle.charstring.specs.TurnLaws.{Here, small, tail-few, by-push, by-plain, by-mask, by-out, by-bad, by-return, by-end, by-no, inner-repr, found, index-fits, came-back, passed-on}
 use Rattle.charstring.specs.declared.charstring.Limits.{Limits}
@@ -38,7 +38,6 @@ use Rattle.charstring.specs.declared.subroutines.Target.the-variants.{En
 
 -- the numbers that the code's arithmetic goes by
 pub record Safe (by : Limits) (stack out : List ℕ) (s : State) : Type 0 where
-  pub stored : by .stored ≤ length out
   pub room : s .count ≤ length stack
   pub tailed : s .tail ≤ s .count
   pub few : length stack ≤ 65535
@@ -48,23 +47,22 @@ pub record Safe (by : Limits) (stack out : List ℕ) (s : State) : Type 0 where
 module _ (cs globals locals : List ℕ) (by : Limits) (levels : ℕ) (s₀ : State) (stack₀ out₀ : List ℕ) where
   -- what is asked of a state of the reading
   abbrev pub Of : (Rules → Now → Type 0) → Type 0
-  Of P = (rules : Rules) → Ruled rules (length stack₀) (by .hints) (by .exact) → (t₀ : Now) → Repr rules (by .stored) stack₀ out₀ s₀ t₀ → P rules t₀
+  Of P = (rules : Rules) → Ruled rules (length stack₀) (by .hints) (by .exact) → (t₀ : Now) → Repr rules stack₀ out₀ s₀ t₀ → P rules t₀
 
   abbrev lists : Lists
   lists = listsOf 2 globals locals
 
   -- the loop stands at i with this state
   abbrev pub Stands : List ℕ → List ℕ → State → ℕ → Type 0
-  Stands stack out s i = Of (λ rules t₀. Here rules lists cs (by .budget) levels (by .stored) t₀ stack out s i)
+  Stands stack out s i = Of (λ rules t₀. Here rules lists cs (by .budget) levels t₀ stack out s i)
 
   -- the run ends so
   abbrev pub Stops : Ran → List ℕ → List ℕ → Type 0
-  Stops r stack out = Of (λ rules t₀. Done rules (by .stored) stack out r (read rules lists (by .budget) levels cs t₀))
+  Stops r stack out = Of (λ rules t₀. Done rules stack out r (read rules lists (by .budget) levels cs t₀))
 
   pub record Turn (stack out : List ℕ) (s : State) (i : ℕ) : Type 0 where
     pub same-stack : length stack ≡ length stack₀
-    pub same-out : length out ≡ length out₀
-    pub setting : Setting globals locals by (length stack₀) (length out₀)
+    pub setting : Setting globals locals by (length stack₀)
     pub bytes : Bytes cs
     pub global-bytes : Bytes globals
     pub local-bytes : Bytes locals
@@ -72,7 +70,7 @@ module _ (cs globals locals : List ℕ) (by : Limits) (levels : ℕ) (s₀ : Sta
 
   module _ (stack out : List ℕ) (s : State) (i : ℕ) (h : Turn stack out s i) where
     -- under some rules, so that the numbers are small
-    pub safe : Sound (by .hints) (by .exact) (by .stored) stack₀ out₀ s₀ → Safe by stack out s
+    pub safe : Sound (by .hints) (by .exact) stack₀ out₀ s₀ → Safe by stack out s
     unfolding Sound
     safe w =
         let rules = w .0 in
@@ -81,19 +79,15 @@ module _ (cs globals locals : List ℕ) (by : Limits) (levels : ℕ) (s₀ : Sta
         let r = x .repr in
         let st = h .setting in
         let most : rules .hints ≤ 65535 = subst (λ (n : ℕ). n ≤ 65535) (sym (ruled .hints-are)) (st .few-hints) in
-        let m = small rules (by .stored) stack out s (x .now) r in
+        let m = small rules stack out s (x .now) r in
         let k = mul-le-mul {n₁ = longestItem rules} {m₁ = s .tokens} {n₂ = 8197} {m₂ = s .tokens} (omega arith) (le-refl (s .tokens)) in
         record {
-          stored = let a = st .stored in let b = h .same-out in omega arith;
           room = r .room;
-          tailed = tail-few rules (by .stored) stack out s (x .now) r;
+          tailed = tail-few rules stack out s (x .now) r;
           few = let a = st .few-operands in let b = h .same-stack in omega arith;
           hinted = let a = r .hinted in omega arith;
           small = omega arith;
         }
-
-    fits : by .stored ≤ length out
-    fits = let a = h .setting .stored in let b = h .same-out in omega arith
 
     ruled-now : (rules : Rules) → Ruled rules (length stack₀) (by .hints) (by .exact) → Ruled rules (length stack) (by .hints) (by .exact)
     ruled-now rules r = subst (λ (n : ℕ). Ruled rules n (by .hints) (by .exact)) (sym (h .same-stack)) r
@@ -108,57 +102,57 @@ module _ (cs globals locals : List ℕ) (by : Limits) (levels : ℕ) (s₀ : Sta
     pushedState e = record { count = s .count + 1; tail = s .tail + 1; hints = s .hints; mask = s .mask; tokens = s .tokens + 1; length = e }
 
     pushes : (o : Operand) (j w e : ℕ) (others out₁ : List ℕ) → Asks (Push j o) → unpackOf w ≡ o
-        → out₁ ≡ puts (by .stored) (s .length) (spelling charstringRows o ++ others) out → e ≡ s .length + length (spelling charstringRows o)
+        → out₁ ≡ sets out (s .length) (spelling charstringRows o ++ others) → e ≡ s .length + length (spelling charstringRows o)
         → Stands (set stack (s .count) w) out₁ (pushedState e) j
     pushes o j w e others out₁ a u d q = λ rules r t₀ p.
-        by-push rules lists plain cs (h .bytes) (by .budget) levels (by .stored) (by .hints) (by .exact) t₀ stack out s i (ruled-now rules r) fits (h .stands rules r t₀ p)
+        by-push rules lists plain cs (h .bytes) (by .budget) levels (by .hints) (by .exact) t₀ stack out s i (ruled-now rules r) (h .stands rules r t₀ p)
         o j w others out₁ _ (a .0) (a .1) (a .2) u d (ap pushedState q)
 
-    pub arm-push : (o : Operand) (j w e : ℕ) (out₁ : List ℕ) → Asks (Push j o) → unpackOf w ≡ o → out₁ ≡ puts (by .stored) (s .length) (spelling charstringRows o) out
+    pub arm-push : (o : Operand) (j w e : ℕ) (out₁ : List ℕ) → Asks (Push j o) → unpackOf w ≡ o → out₁ ≡ sets out (s .length) (spelling charstringRows o)
         → e ≡ s .length + length (spelling charstringRows o) → Stands (set stack (s .count) w) out₁ (pushedState e) j
     arm-push o j w e out₁ a u d q =
-        pushes o j w e [] out₁ a u (d ∙ ap (λ (bs : List ℕ). puts (by .stored) (s .length) bs out) (sym (append-nil (spelling charstringRows o)))) q
+        pushes o j w e [] out₁ a u (d ∙ ap (λ (bs : List ℕ). sets out (s .length) bs) (sym (append-nil (spelling charstringRows o)))) q
 
-    pub arm-short : (j b x w e : ℕ) (out₁ : List ℕ) → Asks (Short j b x) → unpackOf w ≡ shortOf b x → out₁ ≡ puts (by .stored) (s .length) (b ∷ x ∷ []) out
+    pub arm-short : (j b x w e : ℕ) (out₁ : List ℕ) → Asks (Short j b x) → unpackOf w ≡ shortOf b x → out₁ ≡ sets out (s .length) (b ∷ x ∷ [])
         → e ≡ s .length + (j - i) → Stands (set stack (s .count) w) out₁ (pushedState e) j
     arm-short j b x w e out₁ a u d q =
-        pushes (shortOf b x) j w e (a .1 .others) out₁ (a .0) u (d ∙ ap (λ (bs : List ℕ). puts (by .stored) (s .length) bs out) (a .1 .bytes))
+        pushes (shortOf b x) j w e (a .1 .others) out₁ (a .0) u (d ∙ ap (λ (bs : List ℕ). sets out (s .length) bs) (a .1 .bytes))
         (q ∙ ap (λ (n : ℕ). s .length + n) (sym (a .1 .long)))
 
-    pub arm-plain : (o : Operator) (j x e : ℕ) (out₁ : List ℕ) → Asks (Shows j x o) → out₁ ≡ puts (by .stored) (s .length) (operatorBytes o) out
+    pub arm-plain : (o : Operator) (j x e : ℕ) (out₁ : List ℕ) → Asks (Shows j x o) → out₁ ≡ sets out (s .length) (operatorBytes o)
         → e ≡ s .length + length (operatorBytes o)
         → Stands stack out₁ (record { count = 0; tail = 0; hints = x; mask = s .mask; tokens = s .tokens + 1; length = e }) j
     arm-plain o j x e out₁ a d q = λ rules r t₀ p.
-        by-plain rules lists plain cs (h .bytes) (by .budget) levels (by .stored) (by .hints) (by .exact) t₀ stack out s i (ruled-now rules r) fits (h .stands rules r t₀ p)
+        by-plain rules lists plain cs (h .bytes) (by .budget) levels (by .hints) (by .exact) t₀ stack out s i (ruled-now rules r) (h .stands rules r t₀ p)
         o j x out₁ _ (a .0) (a .1) d (ap (λ (n : ℕ). record { count = 0; tail = 0; hints = x; mask = s .mask; tokens = s .tokens + 1; length = n }) q)
 
-    pub arm-mask : (o : Operator) (b d c x e₁ e : ℕ) (out₁ out₂ : List ℕ) → Asks (Mask b d c x o) → out₁ ≡ puts (by .stored) (s .length) (operatorBytes o) out
-        → e₁ ≡ s .length + length (operatorBytes o) → out₂ ≡ puts (by .stored) e₁ (take (d - b) (drop b cs)) out₁ → e ≡ e₁ + (d - b)
+    pub arm-mask : (o : Operator) (b d c x e₁ e : ℕ) (out₁ out₂ : List ℕ) → Asks (Mask b d c x o) → out₁ ≡ sets out (s .length) (operatorBytes o)
+        → e₁ ≡ s .length + length (operatorBytes o) → out₂ ≡ sets out₁ e₁ (take (d - b) (drop b cs)) → e ≡ e₁ + (d - b)
         → Stands stack out₂ (record { count = c; tail = 0; hints = x; mask = d - b; tokens = s .tokens + 1; length = e }) d
     arm-mask o b d c x e₁ e out₁ out₂ a w₁ q₁ w₂ q = λ rules r t₀ p.
-        by-mask rules lists plain cs (h .bytes) (by .budget) levels (by .stored) (by .hints) (by .exact) t₀ stack out s i (ruled-now rules r) fits (h .stands rules r t₀ p)
+        by-mask rules lists plain cs (h .bytes) (by .budget) levels (by .hints) (by .exact) t₀ stack out s i (ruled-now rules r) (h .stands rules r t₀ p)
         o b d c x out₁ out₂ _ (a .0) (a .1) (a .2) (a .3) (a .4) (a .5) w₁
-        (w₂ ∙ ap (λ (n : ℕ). puts (by .stored) n (take (d - b) (drop b cs)) out₁) q₁)
+        (w₂ ∙ ap (λ (n : ℕ). sets out₁ n (take (d - b) (drop b cs))) q₁)
         (ap (λ (n : ℕ). record { count = c; tail = 0; hints = x; mask = d - b; tokens = s .tokens + 1; length = n }) (q ∙ ap (λ (n : ℕ). n + (d - b)) q₁))
 
     pub arm-out : Asks Out → Stops (record { how = Back; st = s }) stack out
     arm-out a = λ rules r t₀ p.
-        by-out rules lists plain cs (h .bytes) (by .budget) levels (by .stored) (by .hints) (by .exact) t₀ stack out s i (ruled-now rules r) fits (h .stands rules r t₀ p) a
+        by-out rules lists plain cs (h .bytes) (by .budget) levels (by .hints) (by .exact) t₀ stack out s i (ruled-now rules r) (h .stands rules r t₀ p) a
 
     pub arm-bad : (k : Refusal) → Asks (Bad k) → Stops (record { how = Refused k; st = s }) stack out
     arm-bad k a = λ rules r t₀ p.
-        by-bad rules lists plain cs (h .bytes) (by .budget) levels (by .stored) (by .hints) (by .exact) t₀ stack out s i (ruled-now rules r) fits (h .stands rules r t₀ p) k a
+        by-bad rules lists plain cs (h .bytes) (by .budget) levels (by .hints) (by .exact) t₀ stack out s i (ruled-now rules r) (h .stands rules r t₀ p) k a
 
     pub arm-return : Asks Return
         → Stops (record { how = Back; st = record { count = s .count; tail = s .tail; hints = s .hints; mask = s .mask; tokens = s .tokens + 1; length = s .length } }) stack out
     arm-return a = λ rules r t₀ p.
-        by-return rules lists plain cs (h .bytes) (by .budget) levels (by .stored) (by .hints) (by .exact) t₀ stack out s i (ruled-now rules r) fits (h .stands rules r t₀ p)
+        by-return rules lists plain cs (h .bytes) (by .budget) levels (by .hints) (by .exact) t₀ stack out s i (ruled-now rules r) (h .stands rules r t₀ p)
         (a .0) (a .1) (a .2) (a .3)
 
-    pub arm-end : (o : Operator) (s₁ : State) (out₁ : List ℕ) → Asks (End o) → out₁ ≡ puts (by .stored) (s .length) (operatorBytes o) out
+    pub arm-end : (o : Operator) (s₁ : State) (out₁ : List ℕ) → Asks (End o) → out₁ ≡ sets out (s .length) (operatorBytes o)
         → s₁ .tokens ≡ s .tokens + 1 → s₁ .length ≡ s .length + length (operatorBytes o) → Stops (record { how = Ended; st = s₁ }) stack out₁
     arm-end o s₁ out₁ a d q e = λ rules r t₀ p.
-        by-end rules lists plain cs (h .bytes) (by .budget) levels (by .stored) (by .hints) (by .exact) t₀ stack out s i (ruled-now rules r) fits (h .stands rules r t₀ p)
+        by-end rules lists plain cs (h .bytes) (by .budget) levels (by .hints) (by .exact) t₀ stack out s i (ruled-now rules r) (h .stands rules r t₀ p)
         o (a .0) out₁ s₁ (a .1) (a .2) (a .3) d q e
 
     -- ---- a call
@@ -186,7 +180,7 @@ module _ (cs globals locals : List ℕ) (by : Limits) (levels : ℕ) (s₀ : Sta
 
       pub arm-no : (k : Refusal) → Aims (No k) → Stops (record { how = Refused k; st = s }) stack out
       arm-no k e = λ rules r t₀ p.
-          by-no rules lists plain cs (h .bytes) (by .budget) levels (by .stored) (by .hints) (by .exact) t₀ stack out s i (ruled-now rules r) fits (h .stands rules r t₀ p)
+          by-no rules lists plain cs (h .bytes) (by .budget) levels (by .hints) (by .exact) t₀ stack out s i (ruled-now rules r) (h .stands rules r t₀ p)
           (a .0) w j (a .1) (a .2) (a .3) list-of (chosenCount w by) (list-is w) (count-is w) k e
 
       module _ (from to : ℕ) (e : Aims (Enter from to)) (size : ℕ) (q : size ≡ length (spelling charstringRows operand-of)) where
@@ -197,20 +191,20 @@ module _ (cs globals locals : List ℕ) (by : Limits) (levels : ℕ) (s₀ : Sta
         body-of = take (to - from) (drop from list-of)
 
         -- what the code's arithmetic goes by at an entry
-        pub index-there : Sound (by .hints) (by .exact) (by .stored) stack₀ out₀ s₀ → (size ≤ s .length) × ((0 < s .tail) × (levels ≡ 0 → ⊥))
+        pub index-there : Sound (by .hints) (by .exact) stack₀ out₀ s₀ → (size ≤ s .length) × ((0 < s .tail) × (levels ≡ 0 → ⊥))
         unfolding Sound
         index-there v =
             let rules = v .0 in
             let r = ruled-now rules (v .1 .0) in
             let x = h .stands rules (v .1 .0) (v .1 .1 .0) (v .1 .1 .1) in
-            let m = index-fits rules lists plain cs (h .bytes) (by .budget) levels (by .stored) (by .hints) (by .exact) (v .1 .1 .0) stack out s i r fits x
+            let m = index-fits rules lists plain cs (h .bytes) (by .budget) levels (by .hints) (by .exact) (v .1 .1 .0) stack out s i r x
             (a .0) w j (a .1) (a .2) (a .3) list-of (chosenCount w by) (list-is w) (count-is w) from to e in
-            let g = found rules lists plain cs (h .bytes) (by .budget) levels (by .stored) (by .hints) (by .exact) (v .1 .1 .0) stack out s i r fits x
+            let g = found rules lists plain cs (h .bytes) (by .budget) levels (by .hints) (by .exact) (v .1 .1 .0) stack out s i r x
             (a .0) w j (a .1) (a .2) (a .3) list-of (chosenCount w by) (list-is w) (count-is w) from to e in
             (omega arith, (g .some-last, g .levels-left))
 
         -- the entry's state stands for one of the reading
-        pub inside-sound : Sound (by .hints) (by .exact) (by .stored) stack₀ out₀ s₀ → Sound (by .hints) (by .exact) (by .stored) stack out inside
+        pub inside-sound : Sound (by .hints) (by .exact) stack₀ out₀ s₀ → Sound (by .hints) (by .exact) stack out inside
         unfolding Sound
         inside-sound v =
             let rules = v .0 in
@@ -222,7 +216,7 @@ module _ (cs globals locals : List ℕ) (by : Limits) (levels : ℕ) (s₀ : Sta
                 ruled-now rules r,
                 (
                   _,
-                  inner-repr rules lists plain cs (h .bytes) (by .budget) levels (by .stored) (by .hints) (by .exact) t₀ stack out s i (ruled-now rules r) fits (h .stands rules r t₀ p)
+                  inner-repr rules lists plain cs (h .bytes) (by .budget) levels (by .hints) (by .exact) t₀ stack out s i (ruled-now rules r) (h .stands rules r t₀ p)
                       (a .0) w j (a .1) (a .2) (a .3) list-of (chosenCount w by) (list-is w) (count-is w) from to e size q,
                 ),
               ),
@@ -233,29 +227,29 @@ module _ (cs globals locals : List ℕ) (by : Limits) (levels : ℕ) (s₀ : Sta
           unfolding RunsTo
           arm-back b = λ rules r t₀ p.
               let x = h .stands rules r t₀ p in
-              let z = inner-repr rules lists plain cs (h .bytes) (by .budget) levels (by .stored) (by .hints) (by .exact) t₀ stack out s i (ruled-now rules r) fits x
+              let z = inner-repr rules lists plain cs (h .bytes) (by .budget) levels (by .hints) (by .exact) t₀ stack out s i (ruled-now rules r) x
               (a .0) w j (a .1) (a .2) (a .3) list-of (chosenCount w by) (list-is w) (count-is w) from to e size q in
-              came-back rules lists plain cs (h .bytes) (by .budget) levels (by .stored) (by .hints) (by .exact) t₀ stack out s i (ruled-now rules r) fits x
+              came-back rules lists plain cs (h .bytes) (by .budget) levels (by .hints) (by .exact) t₀ stack out s i (ruled-now rules r) x
               (a .0) w j (a .1) (a .2) (a .3) list-of (chosenCount w by) (list-is w) (count-is w) from to e r₁ stack₁ out₁ (d rules (ruled-now rules r) _ z) b
 
           pub arm-passed : (r₁ .how ≡ Back → ⊥) → Stops r₁ stack₁ out₁
           unfolding RunsTo
           arm-passed n = λ rules r t₀ p.
               let x = h .stands rules r t₀ p in
-              let z = inner-repr rules lists plain cs (h .bytes) (by .budget) levels (by .stored) (by .hints) (by .exact) t₀ stack out s i (ruled-now rules r) fits x
+              let z = inner-repr rules lists plain cs (h .bytes) (by .budget) levels (by .hints) (by .exact) t₀ stack out s i (ruled-now rules r) x
               (a .0) w j (a .1) (a .2) (a .3) list-of (chosenCount w by) (list-is w) (count-is w) from to e size q in
-              passed-on rules lists plain cs (h .bytes) (by .budget) levels (by .stored) (by .hints) (by .exact) t₀ stack out s i (ruled-now rules r) fits x
+              passed-on rules lists plain cs (h .bytes) (by .budget) levels (by .hints) (by .exact) t₀ stack out s i (ruled-now rules r) x
               (a .0) w j (a .1) (a .2) (a .3) list-of (chosenCount w by) (list-is w) (count-is w) from to e r₁ stack₁ out₁ (d rules (ruled-now rules r) _ z) n
 
   -- what is known once the token was looked at
   pub record Head (stack out : List ℕ) (s : State) (i : ℕ) (r : Request) : Type 0 where
     pub turn : Turn stack out s i
     pub safe-now : Safe by stack out s
-    pub sound : Sound (by .hints) (by .exact) (by .stored) stack₀ out₀ s₀
+    pub sound : Sound (by .hints) (by .exact) stack₀ out₀ s₀
     pub looked : Looked cs i (by .budget) (length stack) (by .hints) (s .tokens) (s .count) (s .hints) (s .mask) r
 
   module _ (stack out : List ℕ) (s : State) (i : ℕ) (r : Request) where
-    pub headed : Turn stack out s i → Sound (by .hints) (by .exact) (by .stored) stack₀ out₀ s₀
+    pub headed : Turn stack out s i → Sound (by .hints) (by .exact) stack₀ out₀ s₀
         → Looked cs i (by .budget) (length stack) (by .hints) (s .tokens) (s .count) (s .hints) (s .mask) r → Head stack out s i r
     headed h v a = record { turn = h; safe-now = safe stack out s i h v; sound = v; looked = a }
 
@@ -285,11 +279,10 @@ inside-at n m r x e q i = subst (λ (y : ℕ). Inside y x) e (subst (Inside n) q
 
 -- what holds all through a run holds of the slices as they are now
 pub setting-now : (cs globals locals : List ℕ) (by : Limits) (levels : ℕ) (s₀ : State) (stack₀ out₀ stack out : List ℕ) (s : State) (i : ℕ)
-    → Turn cs globals locals by levels s₀ stack₀ out₀ stack out s i → Setting globals locals by (length stack) (length out)
+    → Turn cs globals locals by levels s₀ stack₀ out₀ stack out s i → Setting globals locals by (length stack)
 setting-now cs globals locals by levels s₀ stack₀ out₀ stack out s i h =
     let x = h .setting in
     record {
-      stored = let a = x .stored in let b = h .same-out in omega arith;
       few-hints = x .few-hints;
       few-operands = let a = x .few-operands in let b = h .same-stack in omega arith;
       global-count = x .global-count;

@@ -122,7 +122,7 @@ tailOf (operand o ∷ f) = suc (tailOf f)
 tailOf (plainly p ∷ f) = 0
 tailOf (masked p m ∷ f) = 0
 
-pub record Repr (rules : Rules) (limit : ℕ) (stack out : List ℕ) (s : State) (t : Now) : Type 0 where
+pub record Repr (rules : Rules) (stack out : List ℕ) (s : State) (t : Now) : Type 0 where
   pub room : s .count ≤ length stack
   pub ops : t .left .operands ≡ stackOf stack (s .count)
   pub hints-are : t .left .hints ≡ s .hints
@@ -132,7 +132,7 @@ pub record Repr (rules : Rules) (limit : ℕ) (stack out : List ℕ) (s : State)
   pub tail-is : tailOf (struck (t .shown)) ≡ s .tail
   pub length-is : length (flat (struck (t .shown))) ≡ s .length
   pub good : Good rules t
-  pub bytes : Written limit out (flat (struck (t .shown)))
+  pub bytes : Written out (flat (struck (t .shown)))
 
 abbrev pub howOf : Ending → How
 howOf Back = back
@@ -142,22 +142,22 @@ howOf (Refused k) = stopped (numberOf k)
 -- ---- a run
 
 -- what a run of the code leaves, beside the reading's x
-pub record Done (rules : Rules) (limit : ℕ) (stack₁ out₁ : List ℕ) (r : Ran) (x : Run) : Type 0 where
+pub record Done (rules : Rules) (stack₁ out₁ : List ℕ) (r : Ran) (x : Run) : Type 0 where
   pub how : howOf (r .how) ≡ x .how
   pub tokens-are : length (x .state .shown) ≡ r .st .tokens
   pub length-is : length (flat (struck (x .state .shown))) ≡ r .st .length
-  pub bytes : Written limit out₁ (flat (struck (x .state .shown)))
-  pub on : x .how ≡ back → Repr rules limit stack₁ out₁ (r .st) (x .state)
+  pub bytes : Written out₁ (flat (struck (x .state .shown)))
+  pub on : x .how ≡ back → Repr rules stack₁ out₁ (r .st) (x .state)
 
 -- the state stands for one of the reading, under some rules of these limits
-unfoldable pub Sound : ℕ → Bool → ℕ → List ℕ → List ℕ → State → Type 0
-Sound hints exact limit stack out s = (rules : Rules) × (Ruled rules (length stack) hints exact × ((t : Now) × Repr rules limit stack out s t))
+unfoldable pub Sound : ℕ → Bool → List ℕ → List ℕ → State → Type 0
+Sound hints exact stack out s = (rules : Rules) × (Ruled rules (length stack) hints exact × ((t : Now) × Repr rules stack out s t))
 
 -- whatever state of the reading the state stands for, the run is the reading's
 unfoldable pub RunsTo : List ℕ → List ℕ → List ℕ → Limits → State → List ℕ → List ℕ → ℕ → Ran → List ℕ → List ℕ → Type 0
 RunsTo cs globals locals by s stack out levels r stack₁ out₁ =
-    (rules : Rules) → Ruled rules (length stack) (by .hints) (by .exact) → (t : Now) → Repr rules (by .stored) stack out s t
-    → Done rules (by .stored) stack₁ out₁ r (read rules (listsOf 2 globals locals) (by .budget) levels cs t)
+    (rules : Rules) → Ruled rules (length stack) (by .hints) (by .exact) → (t : Now) → Repr rules stack out s t
+    → Done rules stack₁ out₁ r (read rules (listsOf 2 globals locals) (by .budget) levels cs t)
 
 -- the list that a call names, and how many entries it has
 abbrev pub chosen : Which → List ℕ → List ℕ → List ℕ
@@ -169,8 +169,7 @@ chosenCount Local by = by .locals
 chosenCount Global by = by .globals
 
 -- what holds all through a run
-pub record Setting (globals locals : List ℕ) (by : Limits) (operands room : ℕ) : Type 0 where
-  pub stored : by .stored ≤ room
+pub record Setting (globals locals : List ℕ) (by : Limits) (operands : ℕ) : Type 0 where
   pub few-hints : by .hints ≤ 65535
   pub few-operands : operands ≤ 65535
   pub global-count : by .globals ≡ countIn (extent 2 globals)

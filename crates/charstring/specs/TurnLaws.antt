@@ -8,7 +8,7 @@ use native.Mathlib.Numerals.{add-one}
 use native.Mathlib.Omega.{arith}
 use lib.Dec.{eqb, ltb}
 use lib.ListN.{length, getD, set, take, drop, length-append, length-drop, length-set}
-use lib.Seq.{drop-drop, length-take-le}
+use lib.Seq.{sets, drop-drop, length-take-le}
 use borrow.Author.Tests.{eq-eqb, ne-eqb, lt-ltb, eqb-false, ltb-true}
 use Rattle.number.specs.Number.{charstringRows}
 use Rattle.number.specs.Written.{spelling}
@@ -33,8 +33,8 @@ use Rattle.reading.specs.declared.Refusal.{Refusal}
 use Rattle.reading.specs.declared.Operator.{Operator}
 use Rattle.reading.specs.declared.Which.{Which}
 use Rattle.reading.specs.declared.Kind.the-variants.{Mask, Call, Return, End}
-use Rattle.charstring.specs.Words.{unpackOf, stackOf, puts, enterBy, aimBy, aimed, targetOf}
-use Rattle.charstring.specs.WordsLaws.{Written, puts-append, puts-written, written-cut, stack-length, stack-pushed, stack-last}
+use Rattle.charstring.specs.Words.{unpackOf, stackOf, enterBy, aimBy, aimed, targetOf}
+use Rattle.charstring.specs.WordsLaws.{Written, sets-append, sets-written, written-cut, stack-length, stack-pushed, stack-last}
 use Rattle.charstring.specs.Run.{Ruled, Counts, Begun, AtOperator, Hinted, clears as Clearing, counts as Counting, Fixed, first, later, Refuses, tailOf, Repr, howOf, Done}
 use Rattle.charstring.specs.declared.charstring.State.{State}
 use Rattle.charstring.specs.declared.charstring.Ending.{Ending}
@@ -57,11 +57,11 @@ module _ (rules : Rules) (lists : Lists) (budget : ℕ) where
 
 -- ---- where the loop is
 
-pub record Here (rules : Rules) (lists : Lists) (cs : List ℕ) (budget levels limit : ℕ) (t₀ : Now) (stack out : List ℕ) (s : State) (i : ℕ) : Type 0 where
+pub record Here (rules : Rules) (lists : Lists) (cs : List ℕ) (budget levels : ℕ) (t₀ : Now) (stack out : List ℕ) (s : State) (i : ℕ) : Type 0 where
   pub fuel : ℕ
   pub enough : length (drop i cs) ≤ fuel
   pub now : Now
-  pub repr : Repr rules limit stack out s now
+  pub repr : Repr rules stack out s now
   pub rest : read rules lists budget levels cs t₀ ≡ tokensOf rules lists budget levels (belowOf rules lists budget levels) (length cs) fuel (drop i cs) now
 
 tail-waits : (rules : Rules) (f : List Item) → tailOf f ≤ length (leftBy rules f .operands)
@@ -71,8 +71,8 @@ tail-waits rules (operand o ∷ f) = let k = tail-waits rules f in omega arith
 tail-waits rules (plainly p ∷ f) = zero-le
 tail-waits rules (masked p m ∷ f) = zero-le
 
-module _ (rules : Rules) (limit : ℕ) (stack out : List ℕ) (s : State) (t : Now) where
-  pub counts-of : Repr rules limit stack out s t → Counts t (s .tokens) (s .count) (s .hints) (s .mask)
+module _ (rules : Rules) (stack out : List ℕ) (s : State) (t : Now) where
+  pub counts-of : Repr rules stack out s t → Counts t (s .tokens) (s .count) (s .hints) (s .mask)
   counts-of r =
       record {
         tokens-are = r .tokens-are;
@@ -82,7 +82,7 @@ module _ (rules : Rules) (limit : ℕ) (stack out : List ℕ) (s : State) (t : N
       }
 
   -- the operands that stand last in the flat string are on the stack
-  pub tail-few : Repr rules limit stack out s t → s .tail ≤ s .count
+  pub tail-few : Repr rules stack out s t → s .tail ≤ s .count
   tail-few r =
       let m = tail-waits rules (struck (t .shown)) in
       let e : length (leftBy rules (struck (t .shown)) .operands) ≡ s .count = ap (λ (x : Left). length (x .operands)) (r .good .agree) ∙ counts-of r .count-is in
@@ -90,7 +90,7 @@ module _ (rules : Rules) (limit : ℕ) (stack out : List ℕ) (s : State) (t : N
       omega arith
 
   -- the flat string so far is bounded by the tokens
-  pub small : Repr rules limit stack out s t → s .length ≤ longestItem rules * s .tokens
+  pub small : Repr rules stack out s t → s .length ≤ longestItem rules * s .tokens
   small r =
       let f = struck (t .shown) in
       let m = valid-most rules f (r .good .valid) in
@@ -99,12 +99,12 @@ module _ (rules : Rules) (limit : ℕ) (stack out : List ℕ) (s : State) (t : N
       let l = r .length-is in
       omega arith
 
-module _ (rules : Rules) (lists : Lists) (cs : List ℕ) (budget levels limit : ℕ) (t₀ : Now) (stack out : List ℕ) (s : State) (i : ℕ) where
+module _ (rules : Rules) (lists : Lists) (cs : List ℕ) (budget levels : ℕ) (t₀ : Now) (stack out : List ℕ) (s : State) (i : ℕ) where
   abbrev Loop : List ℕ → List ℕ → State → ℕ → Type 0
-  Loop stack₁ out₁ s₁ j = Here rules lists cs budget levels limit t₀ stack₁ out₁ s₁ j
+  Loop stack₁ out₁ s₁ j = Here rules lists cs budget levels t₀ stack₁ out₁ s₁ j
 
-  pub begin : limit ≤ length out → (t₁ : Now) → Repr rules limit stack out s t₁ → Here rules lists cs budget levels limit t₁ stack out s 0
-  begin l t₁ r =
+  pub begin : (t₁ : Now) → Repr rules stack out s t₁ → Here rules lists cs budget levels t₁ stack out s 0
+  begin t₁ r =
       record { fuel = length cs; enough = le-refl (length cs); now = t₁; repr = r; rest = read-is rules lists budget levels cs t₁ }
 
   module _ (h : Loop stack out s i) where
@@ -139,7 +139,7 @@ module _ (rules : Rules) (lists : Lists) (cs : List ℕ) (budget levels limit : 
 
     -- the token leads on to j
     pub goes-on : (j : ℕ) (t : Now) (stack₁ out₁ : List ℕ) (s₁ : State) → i < j → j ≤ length cs → stepped ≡ go (drop j cs) t
-        → Repr rules limit stack₁ out₁ s₁ t → Loop stack₁ out₁ s₁ j
+        → Repr rules stack₁ out₁ s₁ t → Loop stack₁ out₁ s₁ j
     unfolding after
     goes-on j t stack₁ out₁ s₁ l m e r =
         let a = after-step (omega arith) in
@@ -171,12 +171,12 @@ module _ (rules : Rules) (lists : Lists) (cs : List ℕ) (budget levels limit : 
 
 -- ---- an item is shown and stored
 
-module _ (rules : Rules) (limit : ℕ) (stack out : List ℕ) (s : State) (t : Now) (r : Repr rules limit stack out s t) (fits : limit ≤ length out) where
+module _ (rules : Rules) (stack out : List ℕ) (s : State) (t : Now) (r : Repr rules stack out s t) where
   -- of an item i that leaves x behind, with the stack, the hints and the mask that stand for x
-  emitted : (i : Item) (x : Left) (stack₁ out₁ : List ℕ) (s₁ : State) → Good rules (shows i x t) → Written limit out₁ (flat (struck (t .shown)) ++ spelled i)
+  emitted : (i : Item) (x : Left) (stack₁ out₁ : List ℕ) (s₁ : State) → Good rules (shows i x t) → Written out₁ (flat (struck (t .shown)) ++ spelled i)
       → s₁ .count ≤ length stack₁ → x .operands ≡ stackOf stack₁ (s₁ .count) → x .hints ≡ s₁ .hints → s₁ .hints ≤ rules .hints → x .mask ≡ s₁ .mask
       → s₁ .tokens ≡ s .tokens + 1 → s₁ .tail ≡ tailOf (i ∷ struck (t .shown)) → s₁ .length ≡ s .length + length (spelled i)
-      → Repr rules limit stack₁ out₁ s₁ (shows i x t)
+      → Repr rules stack₁ out₁ s₁ (shows i x t)
   unfolding struck flat
   emitted i x stack₁ out₁ s₁ g o room ops hints hinted mask tokens tail len =
       record {
@@ -193,10 +193,10 @@ module _ (rules : Rules) (limit : ℕ) (stack out : List ℕ) (s : State) (t : N
       }
 
   -- what is stored is written behind the flat string so far
-  stored-written : (bs out₁ : List ℕ) → out₁ ≡ puts limit (s .length) bs out → Written limit out₁ (flat (struck (t .shown)) ++ bs)
+  stored-written : (bs out₁ : List ℕ) → out₁ ≡ sets out (s .length) bs → Written out₁ (flat (struck (t .shown)) ++ bs)
   stored-written bs out₁ o =
-      subst (λ (l : List ℕ). Written limit l (flat (struck (t .shown)) ++ bs)) (sym o)
-      (puts-written limit (s .length) bs out (flat (struck (t .shown))) fits (r .length-is) (r .bytes))
+      subst (λ (l : List ℕ). Written l (flat (struck (t .shown)) ++ bs)) (sym o)
+      (sets-written out (s .length) bs (flat (struck (t .shown))) (r .length-is) (r .bytes))
 
 -- nothing on the stack
 none-on : (stack : List ℕ) (c : ℕ) → c ≡ 0 → [] ≡ stackOf stack c
@@ -251,8 +251,8 @@ how-back Back q = refl
 how-back Finished q = let w : _≡_ {A = ℕ} 0 1 = cc in absurd (omega arith)
 how-back (Refused k) q = let w : _≡_ {A = ℕ} 0 1 = cc in absurd (omega arith)
 
-repr-closed : (rules : Rules) (limit : ℕ) (stack out : List ℕ) (s : State) (t : Now) → Repr rules limit stack out s t → Repr rules limit stack out s (closed t)
-repr-closed rules limit stack out s t r =
+repr-closed : (rules : Rules) (stack out : List ℕ) (s : State) (t : Now) → Repr rules stack out s t → Repr rules stack out s (closed t)
+repr-closed rules stack out s t r =
     record {
       room = r .room;
       ops = r .ops;
@@ -294,17 +294,17 @@ found-by list levels tail (accepted n) p q =
 
 -- ---- the turns
 
-module _ (rules : Rules) (lists : Lists) (plain : Plain lists) (cs : List ℕ) (bytes : Bytes cs) (budget levels limit hints : ℕ) (exact : Bool)
-    (t₀ : Now) (stack out : List ℕ) (s : State) (i : ℕ) (ruled : Ruled rules (length stack) hints exact) (fits : limit ≤ length out)
-    (h : Here rules lists cs budget levels limit t₀ stack out s i) where
+module _ (rules : Rules) (lists : Lists) (plain : Plain lists) (cs : List ℕ) (bytes : Bytes cs) (budget levels hints : ℕ) (exact : Bool)
+    (t₀ : Now) (stack out : List ℕ) (s : State) (i : ℕ) (ruled : Ruled rules (length stack) hints exact)
+    (h : Here rules lists cs budget levels t₀ stack out s i) where
   abbrev Turn : List ℕ → List ℕ → State → ℕ → Type 0
-  Turn stack₁ out₁ s₁ j = Here rules lists cs budget levels limit t₀ stack₁ out₁ s₁ j
+  Turn stack₁ out₁ s₁ j = Here rules lists cs budget levels t₀ stack₁ out₁ s₁ j
 
   abbrev at : ℕ
   at = length cs - length (drop i cs)
 
   abbrev counted-as : Counts (h .now) (s .tokens) (s .count) (s .hints) (s .mask)
-  counted-as = counts-of rules limit stack out s (h .now) (h .repr)
+  counted-as = counts-of rules stack out s (h .now) (h .repr)
 
   within : s .tokens < budget → length (h .now .shown) < budget
   within l = subst (λ (n : ℕ). n < budget) (sym (h .repr .tokens-are)) l
@@ -320,7 +320,7 @@ module _ (rules : Rules) (lists : Lists) (plain : Plain lists) (cs : List ℕ) (
 
   -- others may be stored behind an operand: they are not part of the flat string yet
   pub by-push : (o : Operand) (j w : ℕ) (others out₁ : List ℕ) (s₁ : State) → Begun cs i j (s .tokens) budget → cut (drop i cs) ≡ token (number o) (drop j cs)
-      → s .count < length stack → unpackOf w ≡ o → out₁ ≡ puts limit (s .length) (spelling charstringRows o ++ others) out
+      → s .count < length stack → unpackOf w ≡ o → out₁ ≡ sets out (s .length) (spelling charstringRows o ++ others)
       → s₁ ≡ record { count = s .count + 1; tail = s .tail + 1; hints = s .hints; mask = s .mask; tokens = s .tokens + 1; length = s .length + length (spelling charstringRows o) }
       → Turn (set stack (s .count) w) out₁ s₁ j
   unfolding spelled tailOf
@@ -329,11 +329,11 @@ module _ (rules : Rules) (lists : Lists) (plain : Plain lists) (cs : List ℕ) (
       let r = h .repr in
       let f = flat (struck (h .now .shown)) in
       let bs = spelling charstringRows o in
-      let more = stored-written rules limit stack out s (h .now) r fits (bs ++ others) out₁ d in
-      let written = written-cut limit out₁ (f ++ bs) others (subst (Written limit out₁) (sym (append-assoc f bs others)) more) in
+      let more = stored-written rules stack out s (h .now) r (bs ++ others) out₁ d in
+      let written = written-cut out₁ (f ++ bs) others (subst (Written out₁) (sym (append-assoc f bs others)) more) in
       subst (λ (y : State). Turn (set stack (s .count) w) out₁ y j) (sym same)
-      (goes-on rules lists cs budget levels limit t₀ stack out s i h j _ _ _ _ (b .ahead) (b .inside) (taken (b .within) _ g)
-      (emitted rules limit stack out s (h .now) r fits (operand o) (pushed o (h .now .left)) (set stack (s .count) w) out₁ _ (led _ g .1) written
+      (goes-on rules lists cs budget levels t₀ stack out s i h j _ _ _ _ (b .ahead) (b .inside) (taken (b .within) _ g)
+      (emitted rules stack out s (h .now) r (operand o) (pushed o (h .now .left)) (set stack (s .count) w) out₁ _ (led _ g .1) written
       (subst (λ (n : ℕ). s .count + 1 ≤ n) (sym (length-set stack (s .count) w)) (omega arith))
       (ap (λ (z : List Operand). o ∷ z) (r .ops) ∙ sym (stack-pushed stack w o (s .count) e l))
       (r .hints-are) (r .hinted) (r .mask-is) refl (ap (λ (n : ℕ). n + 1) (sym (r .tail-is)) ∙ add-one _) refl))
@@ -347,16 +347,16 @@ module _ (rules : Rules) (lists : Lists) (plain : Plain lists) (cs : List ℕ) (
     -- one that clears the stack
     plain-turn : (j h₁ : ℕ) (x : Left) (out₁ : List ℕ) → AtOperator cs i j (s .tokens) budget p
         → Goes rules lists levels at (drop i cs) (h .now) (go (drop j cs) (shows (plainly p) x (h .now)))
-        → out₁ ≡ puts limit (s .length) (operatorBytes p) out → x .operands ≡ [] → x .hints ≡ h₁ → h₁ ≤ rules .hints → x .mask ≡ s .mask
+        → out₁ ≡ sets out (s .length) (operatorBytes p) → x .operands ≡ [] → x .hints ≡ h₁ → h₁ ≤ rules .hints → x .mask ≡ s .mask
         → Turn stack out₁ (plainState h₁) j
     unfolding spelled tailOf stackOf
     plain-turn j h₁ x out₁ a g d ops hints hinted mask =
-        goes-on rules lists cs budget levels limit t₀ stack out s i h j _ _ _ _ (a .begun .ahead) (a .begun .inside) (taken (a .begun .within) _ g)
-        (emitted rules limit stack out s (h .now) (h .repr) fits (plainly p) x stack out₁ (plainState h₁) (led _ g .1)
-        (stored-written rules limit stack out s (h .now) (h .repr) fits (operatorBytes p) out₁ d) zero-le ops hints hinted mask refl refl refl)
+        goes-on rules lists cs budget levels t₀ stack out s i h j _ _ _ _ (a .begun .ahead) (a .begun .inside) (taken (a .begun .within) _ g)
+        (emitted rules stack out s (h .now) (h .repr) (plainly p) x stack out₁ (plainState h₁) (led _ g .1)
+        (stored-written rules stack out s (h .now) (h .repr) (operatorBytes p) out₁ d) zero-le ops hints hinted mask refl refl refl)
 
     pub by-plain : (j h₁ : ℕ) (out₁ : List ℕ) (s₁ : State) → AtOperator cs i j (s .tokens) budget p → Hinted hints (s .count) (s .hints) p h₁
-        → out₁ ≡ puts limit (s .length) (operatorBytes p) out → s₁ ≡ plainState h₁ → Turn stack out₁ s₁ j
+        → out₁ ≡ sets out (s .length) (operatorBytes p) → s₁ ≡ plainState h₁ → Turn stack out₁ s₁ j
     by-plain j h₁ out₁ s₁ a (Clearing k e) d same =
         let r = h .repr in
         subst (λ (y : State). Turn stack out₁ y j) (sym same)
@@ -379,7 +379,7 @@ module _ (rules : Rules) (lists : Lists) (plain : Plain lists) (cs : List ℕ) (
     fixedNow = atMask (h .now .left)
 
     mask-turn : (a b c h₁ : ℕ) (out₁ : List ℕ) → AtOperator cs i a (s .tokens) budget p → type2 p ≡ Mask → h₁ ≤ hints → a ≤ b → b ≤ length cs
-        → out₁ ≡ puts limit (s .length) (operatorBytes p ++ take (b - a) (drop a cs)) out
+        → out₁ ≡ sets out (s .length) (operatorBytes p ++ take (b - a) (drop a cs))
         → c ≤ length stack → fixedNow .operands ≡ stackOf stack c → fixedNow .hints ≡ h₁ → fixedNow .mask ≡ b - a
         → Turn stack out₁ (maskState c h₁ (b - a)) b
     unfolding spelled tailOf
@@ -394,25 +394,25 @@ module _ (rules : Rules) (lists : Lists) (plain : Plain lists) (cs : List ℕ) (
         let g₁ = subst (λ (y : List ℕ). Goes rules lists levels at (drop i cs) (h .now) (go y (shows (masked p m) fixedNow (h .now)))) behind
         (subst (λ (y : List ℕ). Goes rules lists levels at (drop i cs) (h .now) (go (drop n (drop a cs)) (shows (masked p y) fixedNow (h .now)))) items g) in
         let long : length m ≡ b - a = length-take-le (b - a) (drop a cs) (omega (arith, length-drop a cs)) in
-        goes-on rules lists cs budget levels limit t₀ stack out s i h b _ _ _ _ (let z = q .begun .ahead in omega arith) bn (taken (q .begun .within) _ g₁)
-        (emitted rules limit stack out s (h .now) (h .repr) fits (masked p m) fixedNow stack out₁ (maskState c h₁ (b - a)) (led _ g₁ .1)
-        (stored-written rules limit stack out s (h .now) (h .repr) fits (operatorBytes p ++ m) out₁ d) room ops hs most ms refl refl
+        goes-on rules lists cs budget levels t₀ stack out s i h b _ _ _ _ (let z = q .begun .ahead in omega arith) bn (taken (q .begun .within) _ g₁)
+        (emitted rules stack out s (h .now) (h .repr) (masked p m) fixedNow stack out₁ (maskState c h₁ (b - a)) (led _ g₁ .1)
+        (stored-written rules stack out s (h .now) (h .repr) (operatorBytes p ++ m) out₁ d) room ops hs most ms refl refl
         (let e = length-append (operatorBytes p) m in omega arith))
 
     pub by-mask : (a b c h₁ : ℕ) (out₁ out₂ : List ℕ) (s₁ : State) → AtOperator cs i a (s .tokens) budget p → type2 p ≡ Mask → h₁ ≤ hints → a ≤ b → b ≤ length cs
         → Fixed (s .count) (s .hints) (s .mask) c h₁ (b - a)
-        → out₁ ≡ puts limit (s .length) (operatorBytes p) out → out₂ ≡ puts limit (s .length + length (operatorBytes p)) (take (b - a) (drop a cs)) out₁
+        → out₁ ≡ sets out (s .length) (operatorBytes p) → out₂ ≡ sets out₁ (s .length + length (operatorBytes p)) (take (b - a) (drop a cs))
         → s₁ ≡ maskState c h₁ (b - a) → Turn stack out₂ s₁ b
     by-mask a b c h₁ out₁ out₂ s₁ q k l ab bn f d₁ d₂ same =
-        let d : out₂ ≡ puts limit (s .length) (operatorBytes p ++ take (b - a) (drop a cs)) out =
-        d₂ ∙ ap (puts limit (s .length + length (operatorBytes p)) (take (b - a) (drop a cs))) d₁ ∙ sym (puts-append limit (s .length) (operatorBytes p) (take (b - a) (drop a cs)) out) in
+        let d : out₂ ≡ sets out (s .length) (operatorBytes p ++ take (b - a) (drop a cs)) =
+        d₂ ∙ ap (λ (l : List ℕ). sets l (s .length + length (operatorBytes p)) (take (b - a) (drop a cs))) d₁ ∙ sym (sets-append out (s .length) (operatorBytes p) (take (b - a) (drop a cs))) in
         subst (λ (y : State). Turn stack out₂ y b) (sym same) (by-fixed f d)
       where
         c₀ : Counts (h .now) (s .tokens) (s .count) (s .hints) (s .mask)
         c₀ = counted-as
 
         by-fixed : Fixed (s .count) (s .hints) (s .mask) c h₁ (b - a)
-            → out₂ ≡ puts limit (s .length) (operatorBytes p ++ take (b - a) (drop a cs)) out → Turn stack out₂ (maskState c h₁ (b - a)) b
+            → out₂ ≡ sets out (s .length) (operatorBytes p ++ take (b - a) (drop a cs)) → Turn stack out₂ (maskState c h₁ (b - a)) b
         by-fixed (first z cz e m) d =
             let now-is : fixedNow ≡ record { operands = []; hints = h .now .left .hints + length (h .now .left .operands) / 2; mask = (h .now .left .hints + length (h .now .left .operands) / 2 + 7) / 8 }
             = rw (eq-eqb (h .now .left .mask) 0 (c₀ .mask-is ∙ z)) in
@@ -433,28 +433,28 @@ module _ (rules : Rules) (lists : Lists) (plain : Plain lists) (cs : List ℕ) (
   whole = read rules lists budget levels cs t₀
 
   abbrev pub Ends-with : Ran → List ℕ → List ℕ → Type 0
-  Ends-with r stack₁ out₁ = Done rules limit stack₁ out₁ r whole
+  Ends-with r stack₁ out₁ = Done rules stack₁ out₁ r whole
 
   -- the state is as it was before the token
-  stays : (e : Ending) (x : Run) → howOf e ≡ x .how → x .state ≡ h .now → Done rules limit stack out (record { how = e; st = s }) x
+  stays : (e : Ending) (x : Run) → howOf e ≡ x .how → x .state ≡ h .now → Done rules stack out (record { how = e; st = s }) x
   stays e x q n =
       let r = h .repr in
       record {
         how = q;
         tokens-are = ap (λ (y : Now). length (y .shown)) n ∙ r .tokens-are;
         length-is = ap (λ (y : Now). length (flat (struck (y .shown)))) n ∙ r .length-is;
-        bytes = subst (λ (y : Now). Written limit out (flat (struck (y .shown)))) (sym n) (r .bytes);
-        on = λ z. subst (Repr rules limit stack out s) (sym n) r;
+        bytes = subst (λ (y : Now). Written out (flat (struck (y .shown)))) (sym n) (r .bytes);
+        on = λ z. subst (Repr rules stack out s) (sym n) r;
       }
 
   pub by-out : length cs ≤ i → Ends-with (record { how = Back; st = s }) stack out
   by-out l =
-      let e = runs-out rules lists cs budget levels limit t₀ stack out s i h l in
+      let e = runs-out rules lists cs budget levels t₀ stack out s i h l in
       stays Back whole (sym (ap (λ (x : Run). x .how) e)) (ap (λ (x : Run). x .state) e)
 
   stops : (k : Refusal) → i < length cs → step rules lists levels at budget (drop i cs) (h .now) ≡ refuse (numberOf k) (h .now) → Ends-with (record { how = Refused k; st = s }) stack out
   stops k l q =
-      let e = halts rules lists cs budget levels limit t₀ stack out s i h l (stopped (numberOf k)) (h .now) q in
+      let e = halts rules lists cs budget levels t₀ stack out s i h l (stopped (numberOf k)) (h .now) q in
       stays (Refused k) whole (sym (ap (λ (x : Run). x .how) e)) (ap (λ (x : Run). x .state) e)
 
   pub by-bad : (k : Refusal) → Refuses cs i budget (length stack) hints (s .tokens) (s .count) (s .hints) (s .mask) (numberOf k) → Ends-with (record { how = Refused k; st = s }) stack out
@@ -468,11 +468,11 @@ module _ (rules : Rules) (lists : Lists) (plain : Plain lists) (cs : List ℕ) (
   by-return p j a k =
       let g = returns p (drop j cs) (a .cut-is) (ruled .kinds p ∙ k) in
       let b = a .begun in
-      let e = halts rules lists cs budget levels limit t₀ stack out s i h (omega (arith, b .ahead, b .inside)) _ _ (taken (b .within) _ g) in
+      let e = halts rules lists cs budget levels t₀ stack out s i h (omega (arith, b .ahead, b .inside)) _ _ (taken (b .within) _ g) in
       let r = h .repr in
       let t : Now = record { left = h .now .left; shown = return ∷ h .now .shown; within = h .now .within } in
       let same : whole .state ≡ t = ap (λ (x : Run). x .state) e in
-      let back-now : Repr rules limit stack out returnState t =
+      let back-now : Repr rules stack out returnState t =
       record {
         room = r .room;
         ops = r .ops;
@@ -489,18 +489,18 @@ module _ (rules : Rules) (lists : Lists) (plain : Plain lists) (cs : List ℕ) (
         how = sym (ap (λ (x : Run). x .how) e);
         tokens-are = ap (λ (y : Now). length (y .shown)) same ∙ back-now .tokens-are;
         length-is = ap (λ (y : Now). length (flat (struck (y .shown)))) same ∙ r .length-is;
-        bytes = subst (λ (y : Now). Written limit out (flat (struck (y .shown)))) (sym same) (r .bytes);
-        on = λ z. subst (Repr rules limit stack out returnState) (sym same) back-now;
+        bytes = subst (λ (y : Now). Written out (flat (struck (y .shown)))) (sym same) (r .bytes);
+        on = λ z. subst (Repr rules stack out returnState) (sym same) back-now;
       }
 
   pub by-end : (p : Operator) (j : ℕ) (out₁ : List ℕ) (s₁ : State) → AtOperator cs i j (s .tokens) budget p → type2 p ≡ End → s .count < 4
-      → out₁ ≡ puts limit (s .length) (operatorBytes p) out → s₁ .tokens ≡ s .tokens + 1 → s₁ .length ≡ s .length + length (operatorBytes p)
+      → out₁ ≡ sets out (s .length) (operatorBytes p) → s₁ .tokens ≡ s .tokens + 1 → s₁ .length ≡ s .length + length (operatorBytes p)
       → Ends-with (record { how = Finished; st = s₁ }) stack out₁
   unfolding struck flat spelled
   by-end p j out₁ s₁ a k l d tk ln =
       let g = ends p (drop j cs) (a .cut-is) (ruled .kinds p ∙ k) (subst (λ (n : ℕ). n < 4) (sym (counted-as .count-is)) l) in
       let b = a .begun in
-      let e = halts rules lists cs budget levels limit t₀ stack out s i h (omega (arith, b .ahead, b .inside)) _ _ (taken (b .within) _ g) in
+      let e = halts rules lists cs budget levels t₀ stack out s i h (omega (arith, b .ahead, b .inside)) _ _ (taken (b .within) _ g) in
       let r = h .repr in
       let f = flat (struck (h .now .shown)) in
       let same : whole .state ≡ shows (plainly p) (h .now .left) (h .now) = ap (λ (x : Run). x .state) e in
@@ -508,8 +508,8 @@ module _ (rules : Rules) (lists : Lists) (plain : Plain lists) (cs : List ℕ) (
         how = sym (ap (λ (x : Run). x .how) e);
         tokens-are = ap (λ (y : Now). length (y .shown)) same ∙ (let q = r .tokens-are in let z : suc (length (h .now .shown)) ≡ s₁ .tokens = omega arith in z);
         length-is = ap (λ (y : Now). length (flat (struck (y .shown)))) same ∙ (let q = r .length-is in let z : length (f ++ operatorBytes p) ≡ s₁ .length = omega (arith, length-append f (operatorBytes p)) in z);
-        bytes = subst (λ (y : Now). Written limit out₁ (flat (struck (y .shown)))) (sym same)
-            (subst (λ (o : List ℕ). Written limit o (f ++ operatorBytes p)) (sym d) (puts-written limit (s .length) (operatorBytes p) out f fits (r .length-is) (r .bytes)));
+        bytes = subst (λ (y : Now). Written out₁ (flat (struck (y .shown)))) (sym same)
+            (subst (λ (o : List ℕ). Written o (f ++ operatorBytes p)) (sym d) (sets-written out (s .length) (operatorBytes p) f (r .length-is) (r .bytes)));
         on = λ z. absurd (ended-not-back (sym (ap (λ (x : Run). x .how) e) ∙ z));
       }
 
@@ -596,7 +596,7 @@ module _ (rules : Rules) (lists : Lists) (plain : Plain lists) (cs : List ℕ) (
         abbrev pub innerState : ℕ → State
         innerState size = record { count = s .count - 1; tail = s .tail - 1; hints = s .hints; mask = s .mask; tokens = s .tokens + 1; length = s .length - size }
 
-        pub inner-repr : (size : ℕ) → size ≡ length (spelling charstringRows top) → Repr rules limit stack out (innerState size) inner
+        pub inner-repr : (size : ℕ) → size ≡ length (spelling charstringRows top) → Repr rules stack out (innerState size) inner
         unfolding struck flat spelled tailOf
         inner-repr size e =
             let r = h .repr in
@@ -613,7 +613,7 @@ module _ (rules : Rules) (lists : Lists) (plain : Plain lists) (cs : List ℕ) (
               tail-is = let q : suc (tailOf g) ≡ s .tail = sym (ap tailOf last) ∙ r .tail-is in omega arith;
               length-is = let q = r .length-is in omega arith;
               good = led _ goes-in .1 .1 .1;
-              bytes = written-cut limit out (flat g) (spelling charstringRows top) (subst (Written limit out) flat-is (r .bytes));
+              bytes = written-cut out (flat g) (spelling charstringRows top) (subst (Written out) flat-is (r .bytes));
             }
 
         -- the operand that is taken out stands in the flat string
@@ -633,7 +633,7 @@ module _ (rules : Rules) (lists : Lists) (plain : Plain lists) (cs : List ℕ) (
         unfolding after
         entered =
             let b = a .begun in
-            let x = after-step rules lists cs budget levels limit t₀ stack out s i h (omega (arith, b .ahead, b .inside)) in
+            let x = after-step rules lists cs budget levels t₀ stack out s i h (omega (arith, b .ahead, b .inside)) in
             let on : Now → Run = λ y. tokensOf rules lists budget levels (belowOf rules lists budget levels) (length cs) (x .0) (drop j cs) y in (
               x .0,
               (
@@ -643,7 +643,7 @@ module _ (rules : Rules) (lists : Lists) (plain : Plain lists) (cs : List ℕ) (
               ),
             )
 
-        module _ (r : Ran) (stack₁ out₁ : List ℕ) (d : Done rules limit stack₁ out₁ r below-run) where
+        module _ (r : Ran) (stack₁ out₁ : List ℕ) (d : Done rules stack₁ out₁ r below-run) where
           -- it came back, and the caller goes on
           pub came-back : r .how ≡ Back → Turn stack₁ out₁ (r .st) j
           unfolding resume
@@ -656,7 +656,7 @@ module _ (rules : Rules) (lists : Lists) (plain : Plain lists) (cs : List ℕ) (
                 fuel = x .0;
                 enough = let z = x .1 .0 in omega (arith, b .ahead, b .inside, length-drop i cs, length-drop j cs);
                 now = closed (below-run .state);
-                repr = repr-closed rules limit stack₁ out₁ (r .st) (below-run .state) q;
+                repr = repr-closed rules stack₁ out₁ (r .st) (below-run .state) q;
                 rest = x .1 .1 ∙ ap (resume (λ y. tokensOf rules lists budget levels (belowOf rules lists budget levels) (length cs) (x .0) (drop j cs) y) below-run) is-back;
               }
 
@@ -665,5 +665,5 @@ module _ (rules : Rules) (lists : Lists) (plain : Plain lists) (cs : List ℕ) (
           passed-on n =
               let x = entered in
               let same : whole ≡ below-run = x .1 .1 ∙ resume-stays _ below-run (λ z. n (how-back (r .how) (d .how ∙ z))) in
-              subst (λ (y : Run). Done rules limit stack₁ out₁ r y) (sym same)
+              subst (λ (y : Run). Done rules stack₁ out₁ r y) (sym same)
               (record { how = d .how; tokens-are = d .tokens-are; length-is = d .length-is; bytes = d .bytes; on = d .on })

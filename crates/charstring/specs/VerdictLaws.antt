@@ -22,7 +22,7 @@ use Rattle.reading.specs.declared.Profile.{Profile}
 use Rattle.reading.specs.declared.Profile.the-variants.{Plain, Strict}
 use Rattle.reading.specs.declared.Refusal.{Refusal}
 use Rattle.charstring.specs.Words.{stackOf}
-use Rattle.charstring.specs.WordsLaws.{Written, written-none, written-take, written-less}
+use Rattle.charstring.specs.WordsLaws.{Written, written-none, written-take}
 use Rattle.charstring.specs.Run.{Ruled, tailOf, Repr, howOf, Done, Sound, Setting, RunsTo}
 use Rattle.charstring.specs.Verdicts.{flat-of, stopped-by, verdictOf, measureOf}
 use Rattle.charstring.specs.declared.charstring.Limits.{Limits}
@@ -35,13 +35,13 @@ use Rattle.charstring.specs.declared.charstring.Ran.{Ran}
 abbrev pub begun : State
 begun = record { count = 0; tail = 0; hints = 0; mask = 0; tokens = 0; length = 0 }
 
-abbrev pub limitsOf : Profile → ℕ → ℕ → List ℕ → List ℕ → Limits
-limitsOf p budget limit globals locals =
-    record { budget = budget; hints = rulesOf p .hints; exact = rulesOf p .exact; stored = limit; globals = countIn (extent 2 globals); locals = countIn (extent 2 locals) }
+abbrev pub limitsOf : Profile → ℕ → List ℕ → List ℕ → Limits
+limitsOf p budget globals locals =
+    record { budget = budget; hints = rulesOf p .hints; exact = rulesOf p .exact; globals = countIn (extent 2 globals); locals = countIn (extent 2 locals) }
 
-begun-is : (rules : Rules) (limit : ℕ) (stack out : List ℕ) → Repr rules limit stack out begun start
+begun-is : (rules : Rules) (stack out : List ℕ) → Repr rules stack out begun start
 unfolding stackOf flat struck tailOf leftBy
-begun-is rules limit stack out =
+begun-is rules stack out =
     record {
       room = zero-le;
       ops = refl;
@@ -52,7 +52,7 @@ begun-is rules limit stack out =
       tail-is = refl;
       length-is = refl;
       good = record { agree = refl; valid = none; taken = tt };
-      bytes = written-none limit out;
+      bytes = written-none out;
     }
 
 ruled : (p : Profile) → Ruled (rulesOf p) 48 (rulesOf p .hints) (rulesOf p .exact)
@@ -63,33 +63,33 @@ few-hints : (p : Profile) → rulesOf p .hints ≤ 65535
 few-hints Plain = lit≤ tt
 few-hints Strict = lit≤ tt
 
-module _ (p : Profile) (limit : ℕ) (stack out : List ℕ) (full : length stack ≡ 48) where
+module _ (p : Profile) (stack out : List ℕ) (full : length stack ≡ 48) where
   ruled-stack : Ruled (rulesOf p) (length stack) (rulesOf p .hints) (rulesOf p .exact)
   ruled-stack = subst (λ (n : ℕ). Ruled (rulesOf p) n (rulesOf p .hints) (rulesOf p .exact)) (sym full) (ruled p)
 
-  begun-sound : (s : State) → s ≡ begun → Sound (rulesOf p .hints) (rulesOf p .exact) limit stack out s
+  begun-sound : (s : State) → s ≡ begun → Sound (rulesOf p .hints) (rulesOf p .exact) stack out s
   unfolding Sound
-  begun-sound s e = (rulesOf p, (ruled-stack, (start, subst (λ (y : State). Repr (rulesOf p) limit stack out y start) (sym e) (begun-is (rulesOf p) limit stack out))))
+  begun-sound s e = (rulesOf p, (ruled-stack, (start, subst (λ (y : State). Repr (rulesOf p) stack out y start) (sym e) (begun-is (rulesOf p) stack out))))
 
-  module _ (globals locals : List ℕ) (budget : ℕ) (by : Limits) (s : State) (same : s ≡ begun) (limits : by ≡ limitsOf p budget limit globals locals) where
+  module _ (globals locals : List ℕ) (budget : ℕ) (by : Limits) (s : State) (same : s ≡ begun) (limits : by ≡ limitsOf p budget globals locals) where
     -- what a run from the first token asks
-    pub ready : limit ≤ length out → Setting globals locals by (length stack) (length out) × Sound (by .hints) (by .exact) (by .stored) stack out s
-    ready h = subst (λ (l : Limits). Setting globals locals l (length stack) (length out) × Sound (l .hints) (l .exact) (l .stored) stack out s) (sym limits)
-        (record { stored = h; few-hints = few-hints p; few-operands = subst (λ (n : ℕ). n ≤ 65535) (sym full) (lit≤ tt); global-count = refl; local-count = refl }, begun-sound s same)
+    pub ready : Setting globals locals by (length stack) × Sound (by .hints) (by .exact) stack out s
+    ready = subst (λ (l : Limits). Setting globals locals l (length stack) × Sound (l .hints) (l .exact) stack out s) (sym limits)
+        (record { few-hints = few-hints p; few-operands = subst (λ (n : ℕ). n ≤ 65535) (sym full) (lit≤ tt); global-count = refl; local-count = refl }, begun-sound s same)
 
     module _ (cs : List ℕ) (levels : ℕ) (r : Ran) (stack₁ out₁ : List ℕ) (levels-are : levels ≡ rulesOf p .depth - 1) (runs : RunsTo cs globals locals by s stack out levels r stack₁ out₁) where
       -- the run of the code is the reading's
-      pub done : Done (rulesOf p) limit stack₁ out₁ r (reading (rulesOf p) (listsOf 2 globals locals) budget cs)
+      pub done : Done (rulesOf p) stack₁ out₁ r (reading (rulesOf p) (listsOf 2 globals locals) budget cs)
       unfolding RunsTo reading
       done =
-          subst (λ (l : ℕ). RunsTo cs globals locals (limitsOf p budget limit globals locals) begun stack out l r stack₁ out₁) levels-are
-          (subst (λ (y : State). RunsTo cs globals locals (limitsOf p budget limit globals locals) y stack out levels r stack₁ out₁) same
+          subst (λ (l : ℕ). RunsTo cs globals locals (limitsOf p budget globals locals) begun stack out l r stack₁ out₁) levels-are
+          (subst (λ (y : State). RunsTo cs globals locals (limitsOf p budget globals locals) y stack out levels r stack₁ out₁) same
           (subst (λ (l : Limits). RunsTo cs globals locals l s stack out levels r stack₁ out₁) limits runs))
-          (rulesOf p) ruled-stack start (begun-is (rulesOf p) limit stack out)
+          (rulesOf p) ruled-stack start (begun-is (rulesOf p) stack out)
 
 -- ---- the verdict
 
-module _ (rules : Rules) (limit : ℕ) (stack₁ out₁ : List ℕ) (r : Ran) (x : Run) (d : Done rules limit stack₁ out₁ r x) where
+module _ (rules : Rules) (stack₁ out₁ : List ℕ) (r : Ran) (x : Run) (d : Done rules stack₁ out₁ r x) where
   flat-by : (e : How) → x .how ≡ e → tokensBy (length (x .state .shown)) e ≡ length (x .state .shown) → verdictOf x e ≡ flat-of (length (flatOf x)) (tokens x)
       → flat-of (r .st .length) (r .st .tokens) ≡ measureOf x
   flat-by e h t v =
@@ -172,13 +172,12 @@ module _ (out : List ℕ) (x : Run) where
         ∙ sym (ap (λ (y : Answer Flattening). told y (placed (flatOf x) out y)) a)
 
     -- the flat string was held, and its n bytes are copied
-    pub by-held : n ≤ length out → (limit : ℕ) (m : List ℕ) → Written limit m (flatOf x) → n ≤ limit → n ≤ length m → (l : List ℕ) → l ≡ take n m ++ drop n out
+    pub by-held : n ≤ length out → (m : List ℕ) → Written m (flatOf x) → n ≤ length m → (l : List ℕ) → l ≡ take n m ++ drop n out
         → Answers (accepted (record { size = n; tokens = t })) l
-    by-held h limit m w k r l q =
-        by-flat h l (q ∙ ap (λ (f : List ℕ). f ++ drop n out) (written-take n m (flatOf x) (written-less limit n m (flatOf x) k w) (sym (is .size)) r))
+    by-held h m w r l q = by-flat h l (q ∙ ap (λ (f : List ℕ). f ++ drop n out) (written-take n m (flatOf x) w (sym (is .size)) r))
 
     -- it was written to the first n bytes of the room
-    pub by-part : n ≤ length out → (m : List ℕ) → Written (length (take n out)) m (flatOf x) → length m ≡ length (take n out) → Answers (accepted (record { size = n; tokens = t })) (m ++ drop n out)
+    pub by-part : n ≤ length out → (m : List ℕ) → Written m (flatOf x) → length m ≡ length (take n out) → Answers (accepted (record { size = n; tokens = t })) (m ++ drop n out)
     by-part h m w e =
         let z : length (take n out) ≡ n = length-take-le n out h in
-        by-held h (length (take n out)) m w (omega arith) (omega arith) _ (ap (λ (f : List ℕ). f ++ drop n out) (sym (take-all n m (omega arith))))
+        by-held h m w (omega arith) _ (ap (λ (f : List ℕ). f ++ drop n out) (sym (take-all n m (omega arith))))

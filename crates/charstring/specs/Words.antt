@@ -1,11 +1,10 @@
 -- What the code holds, in the reading's words.
-use mathlib.Core.Path.{_≡_}
 use mathlib.Core.Bool.{Bool, false, cond}
 use mathlib.Core.List.{List, [], _∷_}
-use Prim.Native.Nat.{ℕ, zero, suc, _+_, _-_, _/_, _%_, _^_, _≤_, _<_}
+use Prim.Native.Nat.{ℕ, zero, suc, _-_, _/_, _%_, _^_, _≤_, _<_}
 use lib.Dec.{leb, ltb, eqb}
 use lib.IntN.{pos}
-use lib.ListN.{length, getD, set, drop}
+use lib.ListN.{getD, drop}
 use Rattle.number.specs.Answer.{Answer, accepted, refused}
 use Rattle.number.specs.Signed.{signed}
 use Rattle.number.specs.Call.{callee}
@@ -51,16 +50,6 @@ unpackOf w =
 unfoldable pub stackOf : List ℕ → ℕ → List Operand
 stackOf l zero = []
 stackOf l (suc n) = unpackOf (getD l n 0) ∷ stackOf l n
-
--- ---- storing below a limit
-
--- l with the byte b at `at`, if that is below the limit
-unfoldable pub putAt : ℕ → ℕ → ℕ → List ℕ → List ℕ
-putAt limit at b l = cond (ltb at limit) (set l at b) l
-
-unfoldable pub puts : ℕ → ℕ → List ℕ → List ℕ → List ℕ
-puts limit at [] l = l
-puts limit at (b ∷ bs) l = puts limit (at + 1) bs (putAt limit at b l)
 
 -- ---- the entry that a call enters
 

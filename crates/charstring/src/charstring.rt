@@ -1,4 +1,4 @@
-// Running a charstring: one recursive function over slices, whose bytes are stored below a limit.
+// Running a charstring: one recursive function over slices, whose bytes are stored as far as the room goes.
 use crate::argstack::pack;
 use crate::argstack::pack_short;
 use crate::argstack::unpack;
@@ -17,13 +17,12 @@ ghost use mathlib.Core.Path.{_≡_};
 ghost use lib.ListN.{length};
 ghost use Rattle.charstring.specs.Run.{chosen, chosenCount, Setting, Sound, RunsTo};
 
-// What a run goes by: the budget, the limit of hints, whether a Fixed index must be exact, below
-// what place bytes are stored, and how many entries the two lists have.
+// What a run goes by: the budget, the limit of hints, whether a Fixed index must be exact, and how
+// many entries the two lists have.
 pub(crate) struct Limits {
     pub budget: u32,
     pub hints: usize,
     pub exact: bool,
-    pub stored: usize,
     pub globals: u32,
     pub locals: u32,
 }
@@ -63,8 +62,8 @@ pub(crate) fn run<'a>(
     out: &mut [u8],
     levels: u32,
 ) -> Ran
-    requires { ⌜ Setting (now globals) (now locals) by (length (now stack)) (length (now out)) ⌝ }
-    requires { ⌜ Sound (by .hints) (by .exact) (by .stored) (now stack) (now out) s ⌝ }
+    requires { ⌜ Setting (now globals) (now locals) by (length (now stack)) ⌝ }
+    requires { ⌜ Sound (by .hints) (by .exact) (now stack) (now out) s ⌝ }
     ensures { λ r. ⌜ RunsTo (now (cs .entry)) (now (globals .entry)) (now (locals .entry)) by s (now (stack .entry)) (now (out .entry)) levels r (now (stack .exit)) (now (out .exit)) ⌝ }
 {
     let mut count = s.count;
@@ -88,7 +87,7 @@ pub(crate) fn run<'a>(
         );
         match looked {
             Request::Push(next, o) => {
-                end = put_operand(out, by.stored, end, o);
+                end = put_operand(out, end, o);
                 stack[count] = pack(o);
                 count += 1;
                 tail += 1;
@@ -96,7 +95,7 @@ pub(crate) fn run<'a>(
                 i = next;
             }
             Request::Plain(next, h, p) => {
-                end = put_operator(out, by.stored, end, p);
+                end = put_operator(out, end, p);
                 count = 0;
                 tail = 0;
                 hints = h;
@@ -104,8 +103,8 @@ pub(crate) fn run<'a>(
                 i = next;
             }
             Request::Mask(from, to, c, h, p) => {
-                let behind = put_operator(out, by.stored, end, p);
-                end = put_bytes(out, by.stored, behind, &cs[from..to]);
+                let behind = put_operator(out, end, p);
+                end = put_bytes(out, behind, &cs[from..to]);
                 count = c;
                 tail = 0;
                 hints = h;
@@ -180,7 +179,7 @@ pub(crate) fn run<'a>(
                 };
             }
             Request::End(p) => {
-                let last = put_operator(out, by.stored, end, p);
+                let last = put_operator(out, end, p);
                 let st = State {
                     count,
                     tail: 0,
@@ -224,7 +223,7 @@ pub(crate) fn run<'a>(
             }
             // Both bytes are stored; the second is the next token's if the number has only one.
             Request::Short(next, b, x) => {
-                put_two(out, by.stored, end, b, x);
+                put_two(out, end, b, x);
                 stack[count] = pack_short(b, x);
                 count += 1;
                 tail += 1;

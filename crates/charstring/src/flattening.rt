@@ -105,9 +105,9 @@ fn draft<'a>(
     held: &mut [u8],
 ) -> Measured
     ensures { λ r. ⌜ measured r ≡ measureOf (reading (rulesOf profile) (listsOf 2 (now (globals .entry)) (now (locals .entry))) budget (now (cs .entry))) ⌝ }
-    ensures { λ r. ⌜ Written (length (now (held .entry))) (now (held .exit)) (flatOf (reading (rulesOf profile) (listsOf 2 (now (globals .entry)) (now (locals .entry))) budget (now (cs .entry)))) ⌝ }
+    ensures { λ r. ⌜ Written (now (held .exit)) (flatOf (reading (rulesOf profile) (listsOf 2 (now (globals .entry)) (now (locals .entry))) budget (now (cs .entry)))) ⌝ }
 {
-    let by = limits_of(profile, budget, globals, locals, held.len());
+    let by = limits_of(profile, budget, globals, locals);
     let mut stack = [0u64; 48];
     let r = run(
         cs,
@@ -133,7 +133,7 @@ fn keep(out: &mut [u8], n: usize, held: &[u8])
     requires { ⌜ (n ≤ length (now out)) × (n ≤ length (now held)) ⌝ }
     ensures { λ _. ⌜ now (out .exit) ≡ take n (now (held .entry)) ++ drop n (now (out .entry)) ⌝ }
 {
-    put_bytes(out, n, 0, &held[0..n]);
+    put_bytes(out, 0, &held[..n]);
 }
 
 // The state before the first token.
@@ -150,14 +150,13 @@ fn begun() -> State
     }
 }
 
-fn limits_of(profile: Profile, budget: u32, globals: &[u8], locals: &[u8], stored: usize) -> Limits
-    ensures { λ r. ⌜ r ≡ record { budget = budget; hints = rulesOf profile .hints; exact = rulesOf profile .exact; stored = stored; globals = countIn (extent 2 (now (globals .entry))); locals = countIn (extent 2 (now (locals .entry))) } ⌝ }
+fn limits_of(profile: Profile, budget: u32, globals: &[u8], locals: &[u8]) -> Limits
+    ensures { λ r. ⌜ r ≡ record { budget = budget; hints = rulesOf profile .hints; exact = rulesOf profile .exact; globals = countIn (extent 2 (now (globals .entry))); locals = countIn (extent 2 (now (locals .entry))) } ⌝ }
 {
     Limits {
         budget,
         hints: hints_of(profile),
         exact: exact_of(profile),
-        stored,
         globals: count_of(globals),
         locals: count_of(locals),
     }

@@ -99,7 +99,6 @@ turn-at : (t : ℕ) (c : run-lts.At-loop (callees t) (run-at t) run.Post run-Inv
 turn-at t c =
     record {
       same-stack = c .loop .inv .0;
-      same-out = c .loop .inv .1;
       setting = c .before .before .before .before .before .before .pre .1 .0;
       bytes = λ k. c .before .before .before .before .before .shared-slice-known .given k .fits;
       global-bytes = λ k. c .before .before .before .before .shared-slice-known2 .given k .fits;
@@ -191,8 +190,7 @@ run-loop-holds t c =
       refl,
       refl,
       λ rules r t₀ p. begin rules (listsOf 2 (args .globals .now) (args .locals .now)) (args .cs .now) (args .by .budget) (args .levels)
-          (args .by .stored) t₀ (args .stack .now) (args .out .now) (args .s) 0
-          (c .before .before .before .before .before .pre .1 .0 .stored) t₀ p,
+          t₀ (args .stack .now) (args .out .now) (args .s) 0 t₀ p,
     )
 
 run-look-requires : (t : ℕ) → Of run-lts.Need-look-requires t
@@ -330,11 +328,8 @@ run-put-bytes-requires t c κs =
     let f = asks _ _ _ _ _ _ _ _ _ _ _ _ _ d (Mask _ _ _ _ _) (looked3 .given .1) in
     let k = put-operator2 .kept .0 in
     let e = put-operator2 .ensures .0 in
-    let w = operator-two (looked3 .given .0 .1 .1 .1 .1 .0) in (
-      let z = d .safe-now .stored in omega arith,
-      omega
-          (arith, d .safe-now .small, f .0 .begun .within, c .before .before .before .before .before .before .before .before .before .before .before .before .before .before .before .before .good),
-    )
+    let w = operator-two (looked3 .given .0 .1 .1 .1 .1 .0) in
+    omega (arith, d .safe-now .small, f .0 .begun .within, c .before .before .before .before .before .before .before .before .before .before .before .before .before .before .before .before .good)
 
 run-sub-mask : (t : ℕ) → Of run-lts.Need-sub-mask t
 run-sub-mask t c =

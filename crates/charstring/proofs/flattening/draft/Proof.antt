@@ -4,8 +4,6 @@ use Rattle.reading.specs.Rules.{rulesOf}
 use Rattle.reading.specs.Lists.{listsOf}
 use Rattle.reading.specs.Reading.{reading}
 use Rattle.reading.specs.BudgetLaws.{tokens-budget}
-use lib.ListN.{length}
-use native.Mathlib.Nat.{le-refl}
 use mathlib.Core.Path.{refl}
 use borrow.Author.Needs.{needs}
 use Rattle.charstring.proofs.flattening.draft.Statement.{statement}
@@ -14,11 +12,11 @@ use Rattle.charstring.proofs.flattening.draft.Tie as tie
 -- the run is the reading's
 ran : (c : tie.After-run)
     → let args = c .before .before .before .before .before .before .before .before .before .before .args in
-    Done (rulesOf (args .profile)) (length (args .held .now)) (c .run .last .1 .1 .1 .1 .1 .0) (c .run .last .1 .1 .1 .1 .1 .1 .0)
+    Done (rulesOf (args .profile)) (c .run .last .1 .1 .1 .1 .1 .0) (c .run .last .1 .1 .1 .1 .1 .1 .0)
     (c .run .result) (reading (rulesOf (args .profile)) (listsOf 2 (args .globals .now) (args .locals .now)) (args .budget) (args .cs .now))
 ran c =
     let args = c .before .before .before .before .before .before .before .before .before .before .args in
-    done (args .profile) (length (args .held .now)) _ _ refl _ _ (args .budget) _ _ (c .before .before .before .before .begun .ensures)
+    done (args .profile) _ _ refl _ _ (args .budget) _ _ (c .before .before .before .before .begun .ensures)
     (c .before .before .before .before .before .limits-of .ensures) _ _ _ _ _ (c .before .levels-of .ensures) (c .run .ensures)
 
 limits-of-requires : tie.Need-limits-of-requires
@@ -36,8 +34,8 @@ levels-of-requires c κs = search needs
 run-requires : tie.Need-run-requires
 run-requires c κs =
     let args = c .before .before .before .before .before .before .before .before .before .args in
-    ready (args .profile) (length (args .held .now)) _ _ refl _ _ (args .budget) _ _ (c .before .before .before .begun .ensures)
-    (c .before .before .before .before .limits-of .ensures) (le-refl _)
+    ready (args .profile) _ _ refl _ _ (args .budget) _ _ (c .before .before .before .begun .ensures)
+    (c .before .before .before .before .limits-of .ensures)
 
 enum-told : tie.Need-enum-told
 enum-told c = search needs
@@ -50,7 +48,7 @@ enum-known-how c = search needs
 
 counted-requires : tie.Need-counted-requires
 counted-requires c κs =
-    few-tokens _ _ _ _ _ _ (ran (c .before .before .before .before .before .before .before)) _ (c .before .how .given .1)
+    few-tokens _ _ _ _ _ (ran (c .before .before .before .before .before .before .before)) _ (c .before .how .given .1)
     (c .before .before .before .before .before .before .before .before .before .before .before .before .before .before .before .before .before .args .budget)
     (tokens-budget _ _ _ _)
     (c .before .before .before .before .before .before .before .before .before .before .before .before .before .before .before .before .before .fits .budget .fits)
@@ -59,19 +57,19 @@ same-length : tie.Need-same-length
 same-length c = search needs
 
 returns : tie.Need-returns
-returns c = let d = ran (c .before .before .before .before .before .before) in (came-back _ _ _ _ _ _ d (c .enum-told .given .1), d .bytes)
+returns c = let d = ran (c .before .before .before .before .before .before) in (came-back _ _ _ _ _ d (c .enum-told .given .1), d .bytes)
 
 same-length-2 : tie.Need-same-length-2
 same-length-2 c = search needs
 
 returns-2 : tie.Need-returns-2
-returns-2 c = let d = ran (c .before .before .before .before .before .before) in (all-ended _ _ _ _ _ _ d (c .enum-told2 .given .1), d .bytes)
+returns-2 c = let d = ran (c .before .before .before .before .before .before) in (all-ended _ _ _ _ _ d (c .enum-told2 .given .1), d .bytes)
 
 same-length-3 : tie.Need-same-length-3
 same-length-3 c = search needs
 
 returns-3 : tie.Need-returns-3
-returns-3 c = let d = ran (c .before .before .before .before .before .before .before .before) in (was-stopped _ _ _ _ _ _ d _ (c .before .before .how .given .1) _ (c .counted .ensures), d .bytes)
+returns-3 c = let d = ran (c .before .before .before .before .before .before .before .before) in (was-stopped _ _ _ _ _ d _ (c .before .before .how .given .1) _ (c .counted .ensures), d .bytes)
 
 pub draft-spec : {M : Type 1} → statement M
 draft-spec =

@@ -47,8 +47,7 @@ returns-3 : tie.Need-returns-3
 returns-3 c =
     let draft = c .before .before .before .before .before .before .before .before .before .before .before .draft in
     by-held _ _ _ _ (ap measured (sym (c .before .before .before .before .before .before .before .before .n .given .1)) ∙ draft .ensures .0)
-    (c .before .before .before .before .before .before .if1 .left) _ _ (draft .ensures .1) (c .before .before .before .before .before .if2 .taken)
-    (omega arith) _ (c .before .before .keep .ensures)
+    (c .before .before .before .before .before .before .if1 .left) _ (draft .ensures .1) (omega arith) _ (c .before .before .keep .ensures)
 
 same-length-2 : tie.Need-same-length-2
 same-length-2 c = search needs

@@ -1,5 +1,5 @@
-use mathlib.Core.Path.{refl}
-use Rattle.charstring.specs.WordsLaws.{one-below, one-past}
+use mathlib.Core.Path.{refl, sym}
+use lib.Seq.{set-out}
 use borrow.Author.Needs.{needs}
 use Rattle.charstring.proofs.store.put_byte.Statement.{statement}
 use Rattle.charstring.proofs.store.put_byte.Tie as tie
@@ -14,13 +14,13 @@ same-length : tie.Need-same-length
 same-length c = search needs
 
 returns : tie.Need-returns
-returns c = (refl, one-below _ _ _ _ (c .if1 .taken))
+returns c = (refl, refl)
 
 add-result-2 : tie.Need-add-result-2
 add-result-2 c = search needs
 
 returns-2 : tie.Need-returns-2
-returns-2 c = (refl, one-past _ _ _ _ (c .if1 .left))
+returns-2 c = (refl, sym (set-out _ _ _ (c .if1 .left)))
 
 pub put-byte-spec : {M : Type 1} → statement M
 put-byte-spec =

@@ -2,23 +2,22 @@ use mathlib.Core.Path.{_≡_, refl, ap, _∙_}
 use Prim.Native.Nat.{_+_, _-_, _≤_}
 use native.Mathlib.Omega.{arith}
 use lib.ListN.{length, take, set, getD, length-set}
-use Rattle.charstring.specs.Words.{puts}
-use Rattle.charstring.specs.WordsLaws.{puts-next, puts-clipped}
-use Rattle.charstring.proofs.Stored.{stored-none}
+use lib.Seq.{sets}
+use Rattle.charstring.specs.WordsLaws.{sets-next, sets-clipped}
 use Rattle.charstring.proofs.store.put_bytes.Statement.{statement}
 use Rattle.charstring.proofs.store.put_bytes.Tie as tie
 
 abbrev Inv-loop : tie.InvT-loop
-Inv-loop out₀ limit at m n k₀ out k = (k ≤ n) × (length out ≡ length out₀) × (out ≡ puts limit at (take k m) out₀)
+Inv-loop out₀ at m n k₀ out k = (k ≤ n) × (length out ≡ length out₀) × (out ≡ sets out₀ at (take k m))
 
 abbrev μ-loop : tie.MeasureT-loop
-μ-loop out₀ limit at m n k₀ out k = n - k
+μ-loop out₀ at m n k₀ out k = n - k
 
 clipped-requires : tie.Need-clipped-requires Inv-loop μ-loop
 clipped-requires c κs = tt
 
 loop-holds : tie.Need-loop-holds Inv-loop μ-loop
-loop-holds c = (omega arith, refl, stored-none _ _ _)
+loop-holds c = (omega arith, refl, refl)
 
 shared-slice-read-out : tie.Need-shared-slice-read-out Inv-loop μ-loop
 shared-slice-read-out c = omega arith
@@ -42,7 +41,7 @@ loop-again c =
       omega arith,
       length-set (loop .out) _ _ ∙ loop .inv .1,
       ap (λ l. set l (args .at + loop .k) (getD (args .m .now) (loop .k) 0)) (loop .inv .2) ∙
-          puts-next _ _ (args .m .now) _ (loop .k) (omega arith) (omega arith),
+          sets-next _ _ (args .m .now) (loop .k) (omega arith),
     )
 
 add-result : tie.Need-add-result Inv-loop μ-loop
@@ -52,7 +51,7 @@ same-length : tie.Need-same-length Inv-loop μ-loop
 same-length c = c .before .loop .inv .1
 
 returns : tie.Need-returns Inv-loop μ-loop
-returns c = (refl, c .before .loop .inv .2 ∙ puts-clipped _ _ _ _ (c .before .loop .k) (omega arith))
+returns c = (refl, c .before .loop .inv .2 ∙ sets-clipped _ _ _ (c .before .loop .k) (omega arith))
 
 pub put-bytes-spec : {M : Type 1} → statement M
 put-bytes-spec =

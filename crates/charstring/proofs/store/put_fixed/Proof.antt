@@ -1,6 +1,7 @@
-use mathlib.Core.List.{[], _∷_}
 use native.Mathlib.Omega.{arith}
 use Rattle.charstring.proofs.Stored.{stored-then}
+use lib.ListN.{take, drop}
+use Rattle.charstring.specs.Short.{fixedBytes}
 use borrow.Author.Needs.{needs}
 use Rattle.charstring.proofs.store.put_fixed.Statement.{statement}
 use Rattle.charstring.proofs.store.put_fixed.Tie as tie
@@ -31,10 +32,13 @@ same-length c = search needs
 
 returns : tie.Need-returns
 returns c =
-    let put-byte = c .before .before .before .before .before .before .before .before .before .before .put-byte in (
+    let args = c .before .before .before .before .before .before .before .before .before .before .before .before .before .args in
+    let put-byte = c .before .before .before .before .before .before .before .before .before .before .put-byte in
+    let bs = fixedBytes (args .bits) in (
       omega arith,
-      stored-then _ _ _ (255 ∷ _ ∷ _ ∷ []) (_ ∷ _ ∷ [])
-          (stored-then _ _ _ (255 ∷ []) (_ ∷ _ ∷ []) (put-byte .ensures .1) (put-byte .ensures .0) (c .before .before .before .before .before .before .put-two .ensures .1))
+      stored-then (args .out .now) (args .at) (take 3 bs) (drop 3 bs)
+          (stored-then (args .out .now) (args .at) (take 1 bs) (drop 1 (take 3 bs)) (put-byte .ensures .1) (put-byte .ensures .0)
+          (c .before .before .before .before .before .before .put-two .ensures .1))
           (omega arith) (c .before .before .put-two2 .ensures .1),
     )
 

@@ -1,6 +1,6 @@
-use mathlib.Core.Path.{sym}
+use mathlib.Core.Path.{refl, sym}
 use native.Mathlib.Omega.{arith}
-use Rattle.charstring.proofs.Stored.{stored-as, stored-none}
+use Rattle.charstring.proofs.Stored.{stored-as}
 use Rattle.charstring.specs.Short.{low-wide, low-pair, one-byte, high-pair, high-wide, no-bytes}
 use borrow.Author.Needs.{needs}
 use Rattle.charstring.proofs.store.put_integer.Statement.{statement}
@@ -13,7 +13,7 @@ same-length : tie.Need-same-length
 same-length c = search needs
 
 returns : tie.Need-returns
-returns c = stored-as _ _ _ (sym (low-wide _ (omega arith))) (c .before .before .put-wide .ensures .0) (c .before .before .put-wide .ensures .1)
+returns c = stored-as _ _ (sym (low-wide _ (omega arith))) (c .before .before .put-wide .ensures .0) (c .before .before .put-wide .ensures .1)
 
 sub-put-two : tie.Need-sub-put-two
 sub-put-two c = search needs
@@ -37,7 +37,7 @@ same-length-2 : tie.Need-same-length-2
 same-length-2 c = search needs
 
 returns-2 : tie.Need-returns-2
-returns-2 c = stored-as _ _ _ (sym (low-pair _ (omega arith) (omega arith))) (c .before .before .put-two .ensures .0) (c .before .before .put-two .ensures .1)
+returns-2 c = stored-as _ _ (sym (low-pair _ (omega arith) (omega arith))) (c .before .before .put-two .ensures .0) (c .before .before .put-two .ensures .1)
 
 sub-put-byte : tie.Need-sub-put-byte
 sub-put-byte c = search needs
@@ -52,7 +52,7 @@ same-length-3 : tie.Need-same-length-3
 same-length-3 c = search needs
 
 returns-3 : tie.Need-returns-3
-returns-3 c = stored-as _ _ _ (sym (one-byte _ (omega arith) (omega arith))) (c .before .before .put-byte .ensures .0) (c .before .before .put-byte .ensures .1)
+returns-3 c = stored-as _ _ (sym (one-byte _ (omega arith) (omega arith))) (c .before .before .put-byte .ensures .0) (c .before .before .put-byte .ensures .1)
 
 sub-put-two-3 : tie.Need-sub-put-two-3
 sub-put-two-3 c = search needs
@@ -76,7 +76,7 @@ same-length-4 : tie.Need-same-length-4
 same-length-4 c = search needs
 
 returns-4 : tie.Need-returns-4
-returns-4 c = stored-as _ _ _ (sym (high-pair _ (omega arith) (omega arith))) (c .before .before .put-two2 .ensures .0) (c .before .before .put-two2 .ensures .1)
+returns-4 c = stored-as _ _ (sym (high-pair _ (omega arith) (omega arith))) (c .before .before .put-two2 .ensures .0) (c .before .before .put-two2 .ensures .1)
 
 put-wide-requires-2 : tie.Need-put-wide-requires-2
 put-wide-requires-2 c κs = search needs
@@ -85,10 +85,10 @@ same-length-5 : tie.Need-same-length-5
 same-length-5 c = search needs
 
 returns-5 : tie.Need-returns-5
-returns-5 c = stored-as _ _ _ (sym (high-wide _ (omega arith) (omega arith))) (c .before .before .put-wide2 .ensures .0) (c .before .before .put-wide2 .ensures .1)
+returns-5 c = stored-as _ _ (sym (high-wide _ (omega arith) (omega arith))) (c .before .before .put-wide2 .ensures .0) (c .before .before .put-wide2 .ensures .1)
 
 returns-6 : tie.Need-returns-6
-returns-6 c = stored-as _ _ _ (sym (no-bytes _ (omega arith))) (omega arith) (stored-none _ _ _)
+returns-6 c = stored-as _ _ (sym (no-bytes _ (omega arith))) (omega arith) refl
 
 pub put-integer-spec : {M : Type 1} → statement M
 put-integer-spec =

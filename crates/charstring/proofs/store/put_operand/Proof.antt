@@ -20,7 +20,7 @@ returns c =
     let args = c .before .before .before .before .before .before .before .before .args in
     let bits-of = c .before .before .before .before .before .bits-of in
     let put-fixed = c .before .before .put-fixed in
-    stored-as _ _ _
+    stored-as _ _
     (fixed-bytes (args .o) _ (omega arith) (passed (args .o .value) (omega arith) (bits-of .ensures .0)) (search needs) (bits-of .ensures .1))
     (put-fixed .ensures .0) (put-fixed .ensures .1)
 
@@ -37,7 +37,7 @@ returns-2 : tie.Need-returns-2
 returns-2 c =
     let args = c .before .before .before .before .before .before .before .before .args in
     let put-integer = c .before .before .put-integer in
-    stored-as _ _ _ (integer-bytes (args .o) _ (omega arith)
+    stored-as _ _ (integer-bytes (args .o) _ (omega arith)
     (passed (args .o .value) (omega arith) (c .before .before .before .before .before .bits-of .ensures .0)) (search needs)) (put-integer .ensures .0)
     (put-integer .ensures .1)
 

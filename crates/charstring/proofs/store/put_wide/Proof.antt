@@ -1,6 +1,8 @@
 use mathlib.Core.List.{[], _∷_}
 use native.Mathlib.Omega.{arith}
 use Rattle.charstring.proofs.Stored.{stored-then}
+use lib.ListN.{drop}
+use Rattle.charstring.specs.Short.{wideBytes}
 use borrow.Author.Needs.{needs}
 use Rattle.charstring.proofs.store.put_wide.Statement.{statement}
 use Rattle.charstring.proofs.store.put_wide.Tie as tie
@@ -25,8 +27,11 @@ same-length c = search needs
 
 returns : tie.Need-returns
 returns c =
-    let put-byte = c .before .before .before .before .before .before .put-byte in
-    (omega arith, stored-then _ _ _ (28 ∷ []) (_ ∷ _ ∷ []) (put-byte .ensures .1) (put-byte .ensures .0) (c .before .before .put-two .ensures .1))
+    let args = c .before .before .before .before .before .before .before .before .before .args in
+    let put-byte = c .before .before .before .before .before .before .put-byte in (
+      omega arith,
+      stored-then (args .out .now) (args .at) (28 ∷ []) (drop 1 (wideBytes (args .v))) (put-byte .ensures .1) (put-byte .ensures .0) (c .before .before .put-two .ensures .1),
+    )
 
 pub put-wide-spec : {M : Type 1} → statement M
 put-wide-spec =
