@@ -15,9 +15,13 @@ ran : (c : tie.After-run)
     Done (rulesOf (args .profile)) (c .run .last .1 .1 .1 .1 .1 .0) (c .run .last .1 .1 .1 .1 .1 .1 .0)
     (c .run .result) (reading (rulesOf (args .profile)) (listsOf 2 (args .globals .now) (args .locals .now)) (args .budget) (args .cs .now))
 ran c =
-    let args = c .before .before .before .before .before .before .before .before .before .before .args in
-    done (args .profile) _ _ refl _ _ (args .budget) _ _ (c .before .before .before .before .begun .ensures)
-    (c .before .before .before .before .before .limits-of .ensures) _ _ _ _ _ (c .before .levels-of .ensures) (c .run .ensures)
+    let at-levels-of = c .before in
+    let at-begun = at-levels-of .before .before .before in
+    let at-limits-of = at-begun .before in
+    let start = at-limits-of .before .before .before .before .before in
+    let args = start .args in
+    done (args .profile) _ _ refl _ _ (args .budget) _ _ (at-begun .begun .ensures)
+    (at-limits-of .limits-of .ensures) _ _ _ _ _ (at-levels-of .levels-of .ensures) (c .run .ensures)
 
 limits-of-requires : tie.Need-limits-of-requires
 limits-of-requires c κs = search needs
@@ -33,9 +37,12 @@ levels-of-requires c κs = search needs
 
 run-requires : tie.Need-run-requires
 run-requires c κs =
-    let args = c .before .before .before .before .before .before .before .before .before .args in
-    ready (args .profile) _ _ refl _ _ (args .budget) _ _ (c .before .before .before .begun .ensures)
-    (c .before .before .before .before .limits-of .ensures)
+    let at-begun = c .before .before .before in
+    let at-limits-of = at-begun .before in
+    let start = at-limits-of .before .before .before .before .before in
+    let args = start .args in
+    ready (args .profile) _ _ refl _ _ (args .budget) _ _ (at-begun .begun .ensures)
+    (at-limits-of .limits-of .ensures)
 
 enum-told : tie.Need-enum-told
 enum-told c = search needs
@@ -48,28 +55,38 @@ enum-known-how c = search needs
 
 counted-requires : tie.Need-counted-requires
 counted-requires c κs =
-    few-tokens _ _ _ _ _ (ran (c .before .before .before .before .before .before .before)) _ (c .before .how .given .1)
-    (c .before .before .before .before .before .before .before .before .before .before .before .before .before .before .before .before .before .args .budget)
+    let at-how = c .before in
+    let at-run = at-how .before .before .before .before .before .before in
+    let start = at-run .before .before .before .before .before .before .before .before .before .before in
+    few-tokens _ _ _ _ _ (ran at-run) _ (at-how .how .given .1)
+    (start .args .budget)
     (tokens-budget _ _ _ _)
-    (c .before .before .before .before .before .before .before .before .before .before .before .before .before .before .before .before .before .fits .budget .fits)
+    (start .fits .budget .fits)
 
 same-length : tie.Need-same-length
 same-length c = search needs
 
 returns : tie.Need-returns
-returns c = let d = ran (c .before .before .before .before .before .before) in (came-back _ _ _ _ _ d (c .enum-told .given .1), d .bytes)
+returns c =
+    let at-run = c .before .before .before .before .before .before in
+    let d = ran at-run in (came-back _ _ _ _ _ d (c .enum-told .given .1), d .bytes)
 
 same-length-2 : tie.Need-same-length-2
 same-length-2 c = search needs
 
 returns-2 : tie.Need-returns-2
-returns-2 c = let d = ran (c .before .before .before .before .before .before) in (all-ended _ _ _ _ _ d (c .enum-told2 .given .1), d .bytes)
+returns-2 c =
+    let at-run = c .before .before .before .before .before .before in
+    let d = ran at-run in (all-ended _ _ _ _ _ d (c .enum-told2 .given .1), d .bytes)
 
 same-length-3 : tie.Need-same-length-3
 same-length-3 c = search needs
 
 returns-3 : tie.Need-returns-3
-returns-3 c = let d = ran (c .before .before .before .before .before .before .before .before) in (was-stopped _ _ _ _ _ d _ (c .before .before .how .given .1) _ (c .counted .ensures), d .bytes)
+returns-3 c =
+    let at-how = c .before .before in
+    let at-run = at-how .before .before .before .before .before .before in
+    let d = ran at-run in (was-stopped _ _ _ _ _ d _ (at-how .how .given .1) _ (c .counted .ensures), d .bytes)
 
 pub draft-spec : {M : Type 1} → statement M
 draft-spec =

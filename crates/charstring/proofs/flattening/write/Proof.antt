@@ -20,7 +20,10 @@ enum-known-n : tie.Need-enum-known-n
 enum-known-n c = search needs
 
 returns : tie.Need-returns
-returns c = by-short _ _ _ _ (ap measured (sym (c .before .before .n .given .1)) ∙ c .before .before .before .before .before .draft .ensures .0) (c .if1 .taken)
+returns c =
+    let at-n = c .before .before in
+    let at-draft = at-n .before .before .before in
+    by-short _ _ _ _ (ap measured (sym (at-n .n .given .1)) ∙ at-draft .draft .ensures .0) (c .if1 .taken)
 
 slice-aggregate-keep : tie.Need-slice-aggregate-keep
 slice-aggregate-keep c = search needs
@@ -45,18 +48,26 @@ same-length c = search needs
 
 returns-3 : tie.Need-returns-3
 returns-3 c =
-    let draft = c .before .before .before .before .before .before .before .before .before .before .before .draft in
-    by-held _ _ _ _ (ap measured (sym (c .before .before .before .before .before .before .before .before .n .given .1)) ∙ draft .ensures .0)
-    (c .before .before .before .before .before .before .if1 .left) _ (draft .ensures .1) (omega arith) _ (c .before .before .keep .ensures)
+    let at-keep = c .before .before in
+    let at-if1 = at-keep .before .before .before .before in
+    let at-n = at-if1 .before .before in
+    let at-draft = at-n .before .before .before in
+    let draft = at-draft .draft in
+    by-held _ _ _ _ (ap measured (sym (at-n .n .given .1)) ∙ draft .ensures .0)
+    (at-if1 .if1 .left) _ (draft .ensures .1) (omega arith) _ (at-keep .keep .ensures)
 
 same-length-2 : tie.Need-same-length-2
 same-length-2 c = search needs
 
 returns-4 : tie.Need-returns-4
 returns-4 c =
-    by-part _ _ _ _ (ap measured (sym (c .before .before .before .before .before .before .before .n .given .1)) ∙
-    c .before .before .before .before .before .before .before .before .before .before .draft .ensures .0)
-    (c .before .before .before .before .before .if1 .left) _ (c .before .before .draft2 .ensures .1) (c .before .before .draft2 .kept .1 .1 .1 .1 .1 .0)
+    let at-draft2 = c .before .before in
+    let at-if1 = at-draft2 .before .before .before in
+    let at-n = at-if1 .before .before in
+    let at-draft = at-n .before .before .before in
+    by-part _ _ _ _ (ap measured (sym (at-n .n .given .1)) ∙
+    at-draft .draft .ensures .0)
+    (at-if1 .if1 .left) _ (at-draft2 .draft2 .ensures .1) (at-draft2 .draft2 .kept .1 .1 .1 .1 .1 .0)
 
 pub write-spec : {M : Type 1} → statement M
 write-spec =

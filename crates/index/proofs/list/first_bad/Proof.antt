@@ -35,11 +35,16 @@ offset-at-requires-2 c κs = (c .before .mask-of .ensures, omega (arith, start-m
 
 returns : tie.Need-returns Inv-loop μ-loop
 returns c =
-    let f = c .before .before .before .before .before .before .pre in
-    bad-entry _ _ (f .head .some) 25 (zero-offset _ _ _ f (c .before .offset-at2 .ensures .0) refl (omega arith)) ∙ from-first _ _ f
+    let at-offset-at2 = c .before in
+    let start = at-offset-at2 .before .before .before .before .before in
+    let f = start .pre in
+    bad-entry _ _ (f .head .some) 25 (zero-offset _ _ _ f (at-offset-at2 .offset-at2 .ensures .0) refl (omega arith)) ∙ from-first _ _ f
 
 loop-holds : tie.Need-loop-holds Inv-loop μ-loop
-loop-holds c = (omega arith, c .before .offset-at2 .ensures .0, omega arith, from-first _ _ (c .before .before .before .before .before .before .pre))
+loop-holds c =
+    let at-offset-at2 = c .before in
+    let start = at-offset-at2 .before .before .before .before .before in
+    (omega arith, at-offset-at2 .offset-at2 .ensures .0, omega arith, from-first _ _ (start .pre))
 
 cast-offset-at : tie.Need-cast-offset-at Inv-loop μ-loop
 cast-offset-at c = search needs
@@ -54,11 +59,17 @@ offset-at-requires-3 c κs =
 
 returns-2 : tie.Need-returns-2 Inv-loop μ-loop
 returns-2 c =
-    bad-entry _ _ (omega arith) 25 (descends _ _ _ (c .before .before .before .before .before .before .before .before .before .before .pre) (c .before .before .before .loop .inv .1) (c .before .offset-at3 .ensures .0) (omega arith)) ∙ c .before .before .before .loop .inv .3
+    let at-offset-at3 = c .before in
+    let at-loop = at-offset-at3 .before .before in
+    let start = at-loop .before .before .before .before .before .before .before in
+    bad-entry _ _ (omega arith) 25 (descends _ _ _ (start .pre) (at-loop .loop .inv .1) (at-offset-at3 .offset-at3 .ensures .0) (omega arith)) ∙ at-loop .loop .inv .3
 
 returns-3 : tie.Need-returns-3 Inv-loop μ-loop
 returns-3 c =
-    bad-entry _ _ (omega arith) 25 (passes _ _ _ (c .before .before .before .before .before .before .before .before .before .before .before .pre) (c .before .before .before .before .loop .inv .1) (c .before .before .offset-at3 .ensures .0) (omega arith)) ∙ c .before .before .before .before .loop .inv .3
+    let at-offset-at3 = c .before .before in
+    let at-loop = at-offset-at3 .before .before in
+    let start = at-loop .before .before .before .before .before .before .before in
+    bad-entry _ _ (omega arith) 25 (passes _ _ _ (start .pre) (at-loop .loop .inv .1) (at-offset-at3 .offset-at3 .ensures .0) (omega arith)) ∙ at-loop .loop .inv .3
 
 add-i : tie.Need-add-i Inv-loop μ-loop
 add-i c = search needs
@@ -68,7 +79,10 @@ loop-less c = search needs
 
 loop-again : tie.Need-loop-again Inv-loop μ-loop
 loop-again c =
-    (omega arith, c .before .before .offset-at3 .ensures .0, omega arith, next-entry _ _ (omega arith) (present _ _ _ (c .before .before .before .before .before .before .before .before .before .before .before .pre) (c .before .before .before .before .loop .inv .1) (c .before .before .offset-at3 .ensures .0) (omega arith) (omega arith) (omega arith) (omega arith) refl refl) ∙ c .before .before .before .before .loop .inv .3)
+    let at-offset-at3 = c .before .before in
+    let at-loop = at-offset-at3 .before .before in
+    let start = at-loop .before .before .before .before .before .before .before in
+    (omega arith, at-offset-at3 .offset-at3 .ensures .0, omega arith, next-entry _ _ (omega arith) (present _ _ _ (start .pre) (at-loop .loop .inv .1) (at-offset-at3 .offset-at3 .ensures .0) (omega arith) (omega arith) (omega arith) (omega arith) refl refl) ∙ at-loop .loop .inv .3)
 
 returns-4 : tie.Need-returns-4 Inv-loop μ-loop
 returns-4 c = none-left _ _ (omega arith) ∙ c .before .loop .inv .3

@@ -51,13 +51,20 @@ enum-told : tie.Need-enum-told
 enum-told c = search needs
 
 returns-2 : tie.Need-returns-2
-returns-2 c = not-up _ _ (not-false _ (c .before .before .before .before .before .before .before .if1 .left)) _ (value-up (c .before .before .before .before)) (ap partOf (sym (c .enum-told .given .1)) ∙ c .before .before .units-of .ensures)
+returns-2 c =
+    let at-units-of = c .before .before in
+    let at-n = at-units-of .before .before in
+    let at-if1 = at-n .before .before .before in
+    not-up _ _ (not-false _ (at-if1 .if1 .left)) _ (value-up at-n) (ap partOf (sym (c .enum-told .given .1)) ∙ at-units-of .units-of .ensures)
 
 cast-minus : tie.Need-cast-minus
 cast-minus c = search needs
 
 minus-requires : tie.Need-minus-requires
-minus-requires c κs = let e = units-are _ _ _ (units-up (c .before)) .1 in let h = below-up (c .before .before .before .before .before) in omega arith
+minus-requires c κs =
+    let at-q = c .before in
+    let at-n = at-q .before .before .before .before in
+    let e = units-are _ _ _ (units-up at-q) .1 in let h = below-up at-n in omega arith
 
 enum-known-n-2 : tie.Need-enum-known-n-2
 enum-known-n-2 c = search needs
@@ -75,19 +82,34 @@ enum-told-2 : tie.Need-enum-told-2
 enum-told-2 c = search needs
 
 returns-3 : tie.Need-returns-3
-returns-3 c = not-down _ _ (not-false _ (c .before .before .before .before .before .before .before .if1 .left)) _ (value-down (c .before .before .before .before)) (ap partOf (sym (c .enum-told2 .given .1)) ∙ c .before .before .units-of2 .ensures)
+returns-3 c =
+    let at-units-of2 = c .before .before in
+    let at-n2 = at-units-of2 .before .before in
+    let at-if1 = at-n2 .before .before .before in
+    not-down _ _ (not-false _ (at-if1 .if1 .left)) _ (value-down at-n2) (ap partOf (sym (c .enum-told2 .given .1)) ∙ at-units-of2 .units-of2 .ensures)
 
 cast-minus-2 : tie.Need-cast-minus-2
 cast-minus-2 c = search needs
 
 minus-requires-2 : tie.Need-minus-requires-2
-minus-requires-2 c κs = let e = units-are _ _ _ (units-down (c .before)) .1 in let h = below-down (c .before .before .before .before .before) in omega arith
+minus-requires-2 c κs =
+    let at-q2 = c .before in
+    let at-n2 = at-q2 .before .before .before .before in
+    let e = units-are _ _ _ (units-down at-q2) .1 in let h = below-down at-n2 in omega arith
 
 returns-4 : tie.Need-returns-4
-returns-4 c = is-up _ _ (not-false _ (c .before .before .before .before .before .before .before .before .before .if1 .left)) _ _ _ (value-up (c .before .before .before .before .before .before)) (units-up (c .before .before)) (moved (c .minus .result) (c .minus .ok) (c .minus .ensures ∙ less-none _))
+returns-4 c =
+    let at-q = c .before .before in
+    let at-n = at-q .before .before .before .before in
+    let at-if1 = at-n .before .before .before in
+    is-up _ _ (not-false _ (at-if1 .if1 .left)) _ _ _ (value-up at-n) (units-up at-q) (moved (c .minus .result) (c .minus .ok) (c .minus .ensures ∙ less-none _))
 
 returns-5 : tie.Need-returns-5
-returns-5 c = is-down _ _ (not-false _ (c .before .before .before .before .before .before .before .before .before .if1 .left)) _ _ _ (value-down (c .before .before .before .before .before .before)) (units-down (c .before .before)) (moved (c .minus2 .result) (c .minus2 .ok) (c .minus2 .ensures ∙ none-less (c .before .before .q2 .given .0 .0)))
+returns-5 c =
+    let at-q2 = c .before .before in
+    let at-n2 = at-q2 .before .before .before .before in
+    let at-if1 = at-n2 .before .before .before in
+    is-down _ _ (not-false _ (at-if1 .if1 .left)) _ _ _ (value-down at-n2) (units-down at-q2) (moved (c .minus2 .result) (c .minus2 .ok) (c .minus2 .ensures ∙ none-less (at-q2 .q2 .given .0 .0)))
 
 pub call-index-spec : {M : Type 1} → statement M
 call-index-spec =

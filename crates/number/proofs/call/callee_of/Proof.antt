@@ -53,13 +53,21 @@ cast-t15 : tie.Need-cast-t15
 cast-t15 c = search needs
 
 returns-2 : tie.Need-returns-2
-returns-2 c = up-at _ _ _ (c .before .before .before .before .before .before .before .z .given .0 .0) (index-is (c .before .before .before .before .before .before .before)) _ (c .before .before .before .before .before .bias .ensures .0) _ (value-up (c .before .before)) (omega arith)
+returns-2 c =
+    let at-n = c .before .before in
+    let at-bias = at-n .before .before .before in
+    let at-z = at-bias .before .before in
+    up-at _ _ _ (at-z .z .given .0 .0) (index-is at-z) _ (at-bias .bias .ensures .0) _ (value-up at-n) (omega arith)
 
 enum-known-n-2 : tie.Need-enum-known-n-2
 enum-known-n-2 c = search needs
 
 returns-3 : tie.Need-returns-3
-returns-3 c = down-before _ _ _ (c .before .before .before .before .before .before .before .z .given .0 .0) (index-is (c .before .before .before .before .before .before .before)) _ (c .before .before .before .before .before .bias .ensures .0) _ (value-down (c .before .before)) (omega arith)
+returns-3 c =
+    let at-n2 = c .before .before in
+    let at-bias = at-n2 .before .before .before in
+    let at-z = at-bias .before .before in
+    down-before _ _ _ (at-z .z .given .0 .0) (index-is at-z) _ (at-bias .bias .ensures .0) _ (value-down at-n2) (omega arith)
 
 sub-if3 : tie.Need-sub-if3
 sub-if3 c = search needs
@@ -74,13 +82,25 @@ sub-t20 : tie.Need-sub-t20
 sub-t20 c = search needs
 
 returns-4 : tie.Need-returns-4
-returns-4 c = down-at _ _ _ (c .before .before .before .before .before .before .before .before .z .given .0 .0) (index-is (c .before .before .before .before .before .before .before .before)) _ (c .before .before .before .before .before .before .bias .ensures .0) _ (value-down (c .before .before .before)) (omega arith) (omega arith)
+returns-4 c =
+    let at-n2 = c .before .before .before in
+    let at-bias = at-n2 .before .before .before in
+    let at-z = at-bias .before .before in
+    down-at _ _ _ (at-z .z .given .0 .0) (index-is at-z) _ (at-bias .bias .ensures .0) _ (value-down at-n2) (omega arith) (omega arith)
 
 returns-5 : tie.Need-returns-5
-returns-5 c = up-past _ _ _ (c .before .before .before .before .before .before .before .z .given .0 .0) (index-is (c .before .before .before .before .before .before .before)) _ (c .before .before .before .before .before .bias .ensures .0) _ (value-up (c .before .before)) (omega arith)
+returns-5 c =
+    let at-n = c .before .before in
+    let at-bias = at-n .before .before .before in
+    let at-z = at-bias .before .before in
+    up-past _ _ _ (at-z .z .given .0 .0) (index-is at-z) _ (at-bias .bias .ensures .0) _ (value-up at-n) (omega arith)
 
 returns-6 : tie.Need-returns-6
-returns-6 c = down-past _ _ _ (c .before .before .before .before .before .before .before .before .z .given .0 .0) (index-is (c .before .before .before .before .before .before .before .before)) _ (c .before .before .before .before .before .before .bias .ensures .0) _ (value-down (c .before .before .before)) (omega arith) (omega arith)
+returns-6 c =
+    let at-n2 = c .before .before .before in
+    let at-bias = at-n2 .before .before .before in
+    let at-z = at-bias .before .before in
+    down-past _ _ _ (at-z .z .given .0 .0) (index-is at-z) _ (at-bias .bias .ensures .0) _ (value-down at-n2) (omega arith) (omega arith)
 
 pub callee-of-spec : {M : Type 1} → statement M
 callee-of-spec =

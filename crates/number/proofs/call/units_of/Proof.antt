@@ -40,10 +40,22 @@ cast-t11 : tie.Need-cast-t11
 cast-t11 c = search needs
 
 returns-4 : tie.Need-returns-4
-returns-4 c = within (c .before .before .before .before .before .args .exact) (c .before .before .before .before .before .args .m) (c .before .before .if2 .left) (λ e. c .before .before .before .if1 .left (c .before .before .before .before .distance .ensures ∙ e)) (c .before .if3 .left) (subst (λ (d : ℕ). 2 * d ≤ 256 / 2 ^ leadingZeros 32 (c .before .before .before .before .before .args .m)) (c .before .before .before .before .distance .ensures) (c .if4 .taken))
+returns-4 c =
+    let at-if3 = c .before in
+    let at-if2 = at-if3 .before in
+    let at-if1 = at-if2 .before in
+    let at-distance = at-if1 .before in
+    let start = at-distance .before in
+    within (start .args .exact) (start .args .m) (at-if2 .if2 .left) (λ e. at-if1 .if1 .left (at-distance .distance .ensures ∙ e)) (at-if3 .if3 .left) (subst (λ (d : ℕ). 2 * d ≤ 256 / 2 ^ leadingZeros 32 (start .args .m)) (at-distance .distance .ensures) (c .if4 .taken))
 
 returns-5 : tie.Need-returns-5
-returns-5 c = beyond (c .before .before .before .before .before .args .exact) (c .before .before .before .before .before .args .m) (c .before .before .if2 .left) (λ e. c .before .before .before .if1 .left (c .before .before .before .before .distance .ensures ∙ e)) (c .before .if3 .left) (subst (λ (d : ℕ). 256 / 2 ^ leadingZeros 32 (c .before .before .before .before .before .args .m) < 2 * d) (c .before .before .before .before .distance .ensures) (c .if4 .left))
+returns-5 c =
+    let at-if3 = c .before in
+    let at-if2 = at-if3 .before in
+    let at-if1 = at-if2 .before in
+    let at-distance = at-if1 .before in
+    let start = at-distance .before in
+    beyond (start .args .exact) (start .args .m) (at-if2 .if2 .left) (λ e. at-if1 .if1 .left (at-distance .distance .ensures ∙ e)) (at-if3 .if3 .left) (subst (λ (d : ℕ). 256 / 2 ^ leadingZeros 32 (start .args .m) < 2 * d) (at-distance .distance .ensures) (c .if4 .left))
 
 pub units-of-spec : {M : Type 1} → statement M
 units-of-spec =

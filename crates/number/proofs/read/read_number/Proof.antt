@@ -43,10 +43,17 @@ enum-told : tie.Need-enum-told
 enum-told c = search needs
 
 returns-3 : tie.Need-returns-3
-returns-3 c = by-none _ _ (sym (c .enum-told .given .1) ∙ c .before .before .bytes-after .ensures) ∙ read-some _ _ (c .before .before .before .before .before .if1 .left)
+returns-3 c =
+    let at-bytes-after = c .before .before in
+    let at-if1 = at-bytes-after .before .before .before in
+    by-none _ _ (sym (c .enum-told .given .1) ∙ at-bytes-after .bytes-after .ensures) ∙ read-some _ _ (at-if1 .if1 .left)
 
 returns-4 : tie.Need-returns-4
-returns-4 c = by-short _ _ _ (sym (c .before .before .k .given .1) ∙ c .before .before .before .before .bytes-after .ensures) (c .if4 .taken) ∙ read-some _ _ (c .before .before .before .before .before .before .before .if1 .left)
+returns-4 c =
+    let at-k = c .before .before in
+    let at-bytes-after = at-k .before .before in
+    let at-if1 = at-bytes-after .before .before .before in
+    by-short _ _ _ (sym (at-k .k .given .1) ∙ at-bytes-after .bytes-after .ensures) (c .if4 .taken) ∙ read-some _ _ (at-if1 .if1 .left)
 
 be-requires : tie.Need-be-requires
 be-requires c κs = let e = width-of (c .before .before) in omega (arith, width-le (c .before .before .before .before .before .before .before .before .before .args .dict) (getD (c .before .before .before .before .before .before .before .before .before .args .s .now) 0 0))
@@ -58,7 +65,14 @@ add-t6 : tie.Need-add-t6
 add-t6 c = search needs
 
 returns-5 : tie.Need-returns-5
-returns-5 c = by-row _ _ _ _ (sym (c .before .before .before .before .k .given .1) ∙ c .before .before .before .before .before .before .bytes-after .ensures) (c .before .before .if4 .left) (c .operand-of2 .ensures ∙ ap (operandOf (rowOf (getD (c .before .before .before .before .before .before .before .before .before .before .before .args .s .now) 0 0) (rowsOf (c .before .before .before .before .before .before .before .before .before .before .before .args .dict))) (getD (c .before .before .before .before .before .before .before .before .before .before .before .args .s .now) 0 0)) (c .before .be .ensures)) ∙ read-some _ _ (c .before .before .before .before .before .before .before .before .before .if1 .left)
+returns-5 c =
+    let at-be = c .before in
+    let at-if4 = at-be .before in
+    let at-k = at-if4 .before .before in
+    let at-bytes-after = at-k .before .before in
+    let at-if1 = at-bytes-after .before .before .before in
+    let start = at-if1 .before .before in
+    by-row _ _ _ _ (sym (at-k .k .given .1) ∙ at-bytes-after .bytes-after .ensures) (at-if4 .if4 .left) (c .operand-of2 .ensures ∙ ap (operandOf (rowOf (getD (start .args .s .now) 0 0) (rowsOf (start .args .dict))) (getD (start .args .s .now) 0 0)) (at-be .be .ensures)) ∙ read-some _ _ (at-if1 .if1 .left)
 
 pub read-number-spec : {M : Type 1} → statement M
 read-number-spec =
