@@ -14,10 +14,10 @@
  * for its length and aligned, and none is null, also where the length is 0. `out` and the places overlap nothing: no
  * input, and not each other. Inputs may overlap each other.
  *
- * There is no state, nothing is allocated, and nothing is called but memset; so any threads may call at
- * once, each with its own `out` and places. ighzamrel_flatten goes one call deeper for each call of the
- * charstring: at 64 strings deep, the most in plain, it used less than 38 KiB of stack, at 11, the most in
- * strict, less than 9 KiB, and each other function less than 200 bytes (x86-64; docs/BENCHMARKS.md says
+ * There is no state, nothing is allocated, and nothing is called but memcpy and memset; so any threads may
+ * call at once, each with its own `out` and places. ighzamrel_flatten goes one call deeper for each call of
+ * the charstring: at 64 strings deep, the most in plain, it used less than 36 KiB of stack, at 11, the most
+ * in strict, less than 9 KiB, and each other function less than 200 bytes (x86-64; docs/BENCHMARKS.md says
  * how that was measured).
  */
 #ifndef IGHZAMREL_H
