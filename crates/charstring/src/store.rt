@@ -5,7 +5,7 @@ use number::Operand;
 use reading::Operator;
 ghost use mathlib.Core.Path.{_≡_};
 ghost use mathlib.Core.List.{[], _∷_};
-ghost use Prim.Native.Nat.{_+_, _-_, _<_, _≤_, _^_};
+ghost use Prim.Native.Nat.{_+_, _-_, _<_, _^_};
 ghost use lib.ListN.{length};
 ghost use lib.Seq.{sets};
 ghost use Rattle.number.specs.Number.{charstringRows};
@@ -15,7 +15,7 @@ ghost use Rattle.charstring.specs.Short.{integerBytes, wideBytes, fixedB
 
 // Stores o in its shortest form from `at` on; where it ends.
 pub(crate) fn put_operand(out: &mut [u8], at: usize, o: Operand) -> usize
-    requires { ⌜ (at < 2 ^ 60) ⌝ }
+    requires { ⌜ at < 2 ^ 60 ⌝ }
     ensures { λ r. ⌜ r ≡ at + length (spelling charstringRows o) ⌝ }
     ensures { λ r. ⌜ now (out .exit) ≡ sets (now (out .entry)) at (spelling charstringRows o) ⌝ }
 {
@@ -54,7 +54,7 @@ pub(crate) fn size_of(o: Operand) -> usize
 
 // Stores an operator with its escape byte.
 pub(crate) fn put_operator(out: &mut [u8], at: usize, p: Operator) -> usize
-    requires { ⌜ (at < 2 ^ 60) ⌝ }
+    requires { ⌜ at < 2 ^ 60 ⌝ }
     ensures { λ r. ⌜ r ≡ at + length (operatorBytes p) ⌝ }
     ensures { λ r. ⌜ now (out .exit) ≡ sets (now (out .entry)) at (operatorBytes p) ⌝ }
 {
@@ -68,7 +68,7 @@ pub(crate) fn put_operator(out: &mut [u8], at: usize, p: Operator) -> usize
 // Stores the bytes m. What lies past the end is clipped before the loop, so that a mask that is not
 // stored costs a constant.
 pub(crate) fn put_bytes(out: &mut [u8], at: usize, m: &[u8]) -> usize
-    requires { ⌜ (at < 2 ^ 60) ⌝ }
+    requires { ⌜ at < 2 ^ 60 ⌝ }
     ensures { λ r. ⌜ r ≡ at + length (now (m .entry)) ⌝ }
     ensures { λ r. ⌜ now (out .exit) ≡ sets (now (out .entry)) at (now (m .entry)) ⌝ }
 {
@@ -96,7 +96,7 @@ fn clipped(room: usize, at: usize, n: usize) -> usize
 
 // Stores the integer v - 32768; nothing where 16 bits do not hold it.
 fn put_integer(out: &mut [u8], at: usize, v: u64) -> usize
-    requires { ⌜ (at < 2 ^ 60) ⌝ }
+    requires { ⌜ at < 2 ^ 60 ⌝ }
     ensures { λ r. ⌜ r ≡ at + length (integerBytes v) ⌝ }
     ensures { λ r. ⌜ now (out .exit) ≡ sets (now (out .entry)) at (integerBytes v) ⌝ }
 {
@@ -153,7 +153,7 @@ fn put_fixed(out: &mut [u8], at: usize, bits: u64) -> usize
 }
 
 pub(crate) fn put_two(out: &mut [u8], at: usize, x: u8, y: u8) -> usize
-    requires { ⌜ (at < 2 ^ 61) ⌝ }
+    requires { ⌜ at < 2 ^ 61 ⌝ }
     ensures { λ r. ⌜ r ≡ at + 2 ⌝ }
     ensures { λ r. ⌜ now (out .exit) ≡ sets (now (out .entry)) at (x ∷ y ∷ []) ⌝ }
 {
@@ -162,7 +162,7 @@ pub(crate) fn put_two(out: &mut [u8], at: usize, x: u8, y: u8) -> usize
 }
 
 fn put_byte(out: &mut [u8], at: usize, b: u8) -> usize
-    requires { ⌜ (at < 2 ^ 62) ⌝ }
+    requires { ⌜ at < 2 ^ 62 ⌝ }
     ensures { λ r. ⌜ r ≡ at + 1 ⌝ }
     ensures { λ r. ⌜ now (out .exit) ≡ sets (now (out .entry)) at (b ∷ []) ⌝ }
 {
