@@ -57,7 +57,7 @@ fn flattened(answer: Flattened, room: &[u8]) -> Line {
         Flattened::Refused(refusal, tokens) => Line::of(number_of(refusal) as u64)
             .value(tokens as u64)
             .keeps(room),
-        Flattened::Short(n, tokens) => Line::of(13)
+        Flattened::NoRoom(n, tokens) => Line::of(13)
             .value(n as u64)
             .value(tokens as u64)
             .keeps(room),

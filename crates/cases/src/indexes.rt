@@ -9,7 +9,7 @@ use crate::room::fill;
 use index::EntryRead;
 use index::Formed;
 use index::IndexRead;
-use writing::IndexWritten;
+use index_writing::IndexWritten;
 
 // 5: bytes.
 pub(crate) fn read_index(args: &[u8]) -> Line {
@@ -51,7 +51,7 @@ pub(crate) fn write_index(args: &[u8], lengths: &mut [u32], room: &mut [u8]) -> 
     read_words(&args[4..], given);
     let lent = &mut room[0..size];
     fill(lent);
-    let answer = writing::write_index(given, bytes_at(args, joined), lent);
+    let answer = index_writing::write_index(given, bytes_at(args, joined), lent);
     index_written(answer, lent)
 }
 
@@ -70,7 +70,7 @@ pub(crate) fn read_entry_by_view(args: &[u8], room: &mut [u8]) -> Line {
     }
     let number = word_at(args, 0);
     let s = bytes_at(args, 4);
-    entry_line(s, number, view::part_by_view(s, number), room)
+    entry_line(s, number, index_view::part_by_view(s, number), room)
 }
 
 // `0 COUNT TAKEN`.
@@ -111,7 +111,7 @@ fn entry_read(answer: EntryRead, part: &[u8], has: usize) -> Line {
 fn index_written(answer: IndexWritten, room: &[u8]) -> Line {
     match answer {
         IndexWritten::Bytes(n) => Line::of(0).value(n as u64).shows(n, room),
-        IndexWritten::Short(n) => Line::of(13).value(n as u64).keeps(room),
+        IndexWritten::NoRoom(n) => Line::of(13).value(n as u64).keeps(room),
         IndexWritten::TooMany => Line::of(22).keeps(room),
         IndexWritten::TooLong => Line::of(23).keeps(room),
         IndexWritten::Mismatch => Line::of(24).keeps(room),

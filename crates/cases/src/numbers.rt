@@ -105,7 +105,7 @@ fn number_read(answer: NumberRead, kind: bool) -> Line {
             }
             Line::of(0).signed_value(o.value).value(taken as u64)
         }
-        NumberRead::Missing => Line::of(4),
+        NumberRead::Lacking => Line::of(4),
         NumberRead::NoNumber => Line::of(6),
     }
 }
@@ -113,7 +113,7 @@ fn number_read(answer: NumberRead, kind: bool) -> Line {
 fn number_written(answer: NumberWritten, room: &[u8]) -> Line {
     match answer {
         NumberWritten::Bytes(n) => Line::of(0).value(n as u64).shows(n, room),
-        NumberWritten::Short(n) => Line::of(13).value(n as u64).keeps(room),
+        NumberWritten::NoRoom(n) => Line::of(13).value(n as u64).keeps(room),
         NumberWritten::Outside => Line::of(17).keeps(room),
     }
 }
@@ -121,7 +121,7 @@ fn number_written(answer: NumberWritten, room: &[u8]) -> Line {
 fn integer_written(answer: IntegerWritten, room: &[u8]) -> Line {
     match answer {
         IntegerWritten::Bytes(n) => Line::of(0).value(n as u64).shows(n, room),
-        IntegerWritten::Short(n) => Line::of(13).value(n as u64).keeps(room),
+        IntegerWritten::NoRoom(n) => Line::of(13).value(n as u64).keeps(room),
     }
 }
 

@@ -11,7 +11,7 @@ use lib.Dec.{ltb, eqb, lit<, lit≤}
 use lib.ListN.{length, getD, take, drop, length-drop, drop-of-length-le}
 use lib.Seq.{drop-cons, drop-drop, take-all, getD-drop}
 use borrow.Author.Tests.{eq-eqb, ne-eqb, lt-ltb, le-ltb}
-use Rattle.number.specs.Answer.{Answer, accepted, refused}
+use Rattle.number.specs.Answer.{Answer, accepted, refused, alone}
 use Rattle.number.specs.BigEndian.{beAt}
 use Rattle.number.specs.Number.{Row, row32, row247, row251, row, rowOf, operandBy, Number, numberBy, charstringRows, readBy}
 use Rattle.number.specs.NumberLaws.{at-near, at-above, at-below, at-low}
@@ -85,13 +85,13 @@ module _ (cs : List ℕ) (i : ℕ) (h : i < length cs) where
         let most = read-inside false (drop i cs) _ e′ in
         (omega arith, omega (arith, length-drop i cs))
 
-  pub missing-at : refused 4 [] ≡ readBy charstringRows behind → lacking ≡ cut (drop i cs)
+  pub missing-at : refused 4 alone ≡ readBy charstringRows behind → lacking ≡ cut (drop i cs)
   unfolding cutBy
-  missing-at e = seen (refused 4 []) e
+  missing-at e = seen (refused 4 alone) e
 
-  pub operator-there : refused 6 [] ≡ readBy charstringRows behind → operatorAt (drop i cs) ≡ cut (drop i cs)
+  pub operator-there : refused 6 alone ≡ readBy charstringRows behind → operatorAt (drop i cs) ≡ cut (drop i cs)
   unfolding cutBy
-  operator-there e = seen (refused 6 []) e
+  operator-there e = seen (refused 6 alone) e
 
 -- ---- a short number
 
@@ -179,7 +179,7 @@ module _ (cs : List ℕ) (i : ℕ) (h : i < length cs) (c : Clear ≡ plainKind 
   abbrev operator-here : Operator
   operator-here = record { escaped = false; byte = getD cs i 0 }
 
-  no-number : readBy charstringRows (drop i cs) ≡ refused 6 []
+  no-number : readBy charstringRows (drop i cs) ≡ refused 6 alone
   unfolding readBy numberBy
   no-number =
       let first : getD (drop i cs) 0 0 ≡ getD cs i 0 = getD-drop i cs 0 0 ∙ rw (add-zero i) refl in

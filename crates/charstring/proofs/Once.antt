@@ -13,7 +13,7 @@ use Rattle.reading.specs.Answers.{Flattening, Outcome, numberOf, flattened}
 use Rattle.reading.specs.declared.Refusal.{Refusal}
 use Rattle.reading.specs.declared.Refusal.the-variants.{BudgetSpent, BytesLacking, TooManyOperands, UnknownOperator, NoIndex, IndexNotLast, NoEntry, TooDeep, TooManyHints, Composite}
 use Rattle.reading.specs.declared.Flattened.{Flattened}
-use Rattle.reading.specs.declared.Flattened.the-variants.{Accepted, BadGlobals, BadLocals, Refused, Short}
+use Rattle.reading.specs.declared.Flattened.the-variants.{Accepted, BadGlobals, BadLocals, Refused, NoRoom}
 use Rattle.charstring.specs.Verdicts.{Verdict, flat-of, stopped-by, measured}
 use Rattle.charstring.specs.declared.flattening.Measured.{Measured}
 use Rattle.charstring.specs.declared.flattening.Measured.the-variants.{Flat, Stopped}
@@ -47,7 +47,7 @@ refusal-undo Composite = refl
 flattened-of : Answer Flattening → Flattened
 flattened-of (accepted x) = Accepted (x .size) (x .tokens)
 flattened-of (refused k v) =
-    cond (eqb k 1) BadGlobals (cond (eqb k 2) BadLocals (cond (eqb k 13) (Short (getD v 0 0) (getD v 1 0)) (Refused (refusal-of k) (getD v 0 0))))
+    cond (eqb k 1) BadGlobals (cond (eqb k 2) BadLocals (cond (eqb k 13) (NoRoom (getD v 0 0) (getD v 1 0)) (Refused (refusal-of k) (getD v 0 0))))
 
 -- a refusal's number is none of 1, 2 and 13
 as-refused : (k : Refusal) (t : ℕ) → flattened-of (flattened (Refused k t)) ≡ Refused (refusal-of (numberOf k)) t
@@ -69,7 +69,7 @@ flattened-undo (Accepted n t) = refl
 flattened-undo BadGlobals = refl
 flattened-undo BadLocals = refl
 flattened-undo (Refused k t) = as-refused k t ∙ ap (λ (j : Refusal). Refused j t) (refusal-undo k)
-flattened-undo (Short n t) = refl
+flattened-undo (NoRoom n t) = refl
 
 measured-of : Verdict → Measured
 measured-of (flat-of n t) = Flat n t

@@ -6,7 +6,7 @@ use Prim.Native.Nat.{ℕ, _+_, _-_}
 use native.Mathlib.Nat.{add-sub-cancel-left}
 use native.Mathlib.Omega.{arith}
 use borrow.Author.Tests.{eq-eqb, ne-eqb, lt-ltb, le-ltb}
-use Rattle.number.specs.Answer.{Answer, accepted, refused}
+use Rattle.number.specs.Answer.{Values, Answer, accepted, refused, alone}
 use Rattle.number.specs.Call.{callee}
 use Rattle.number.specs.declared.Operand.{Operand}
 use Rattle.index.specs.Index.{Place, place}
@@ -15,16 +15,16 @@ use Rattle.charstring.specs.Words.{enterBy, aimBy, aimed}
 
 -- ---- an entry
 
-pub no-entry : (levels tail n : ℕ) (v : List ℕ) (x : Answer Place) → refused n v ≡ x → refused 9 [] ≡ enterBy levels tail x
+pub no-entry : (levels tail n : ℕ) (v : Values) (x : Answer Place) → refused n v ≡ x → refused 9 alone ≡ enterBy levels tail x
 unfolding enterBy
 no-entry levels tail n v x e = rw (← e)
 
 module _ (levels tail : ℕ) (start size : ℕ) (x : Answer Place) (e : lies start size ≡ x) where
-  pub too-deep : levels ≡ 0 → refused 10 [] ≡ enterBy levels tail x
+  pub too-deep : levels ≡ 0 → refused 10 alone ≡ enterBy levels tail x
   unfolding enterBy
   too-deep h = rw (← e, eq-eqb levels 0 h)
 
-  pub not-last : (levels ≡ 0 → ⊥) → tail ≡ 0 → refused 8 [] ≡ enterBy levels tail x
+  pub not-last : (levels ≡ 0 → ⊥) → tail ≡ 0 → refused 8 alone ≡ enterBy levels tail x
   unfolding enterBy
   not-last h k = rw (← e, ne-eqb levels 0 h, le-ltb 0 tail (omega arith))
 
@@ -39,6 +39,6 @@ module _ (list : List ℕ) (count : ℕ) (o : Operand) (exact : Bool) (levels ta
   unfolding aimed aimBy
   aimed-entry k e = rw (← e)
 
-  pub aimed-none : (n : ℕ) → refused n [] ≡ callee exact count o → refused n [] ≡ aimed list count o exact levels tail
+  pub aimed-none : (n : ℕ) → refused n alone ≡ callee exact count o → refused n alone ≡ aimed list count o exact levels tail
   unfolding aimed aimBy
   aimed-none n e = rw (← e)

@@ -9,7 +9,7 @@ use lib.Dec.{leb, ltb}
 use lib.IntN.{ℤ, pos, negsuc}
 use lib.Signed.{mag}
 use borrow.Author.Tests.{lt-ltb, le-ltb, le-leb, lt-leb}
-use Rattle.number.specs.Answer.{Answer, accepted, refused}
+use Rattle.number.specs.Answer.{Answer, accepted, refused, alone}
 use Rattle.number.specs.BigEndian.{bytesOf}
 use Rattle.number.specs.Signed.{unsigned}
 use Rattle.number.specs.Number.{Row, row255, integerRows, rowsOf, charstringRows}
@@ -70,11 +70,11 @@ module _ (v : ℕ) where
 -- ---- they are the shortest form
 
 -- where no row of the integers has it: 255's row has Fixed only
-none-cond : {A : Type 0} (t : Bool) (f : A) (x y : Answer A) → refused 17 [] ≡ cond t (accepted f) x → (refused 17 [] ≡ x → refused 17 [] ≡ y) → refused 17 [] ≡ cond t (accepted f) y
+none-cond : {A : Type 0} (t : Bool) (f : A) (x y : Answer A) → refused 17 alone ≡ cond t (accepted f) x → (refused 17 alone ≡ x → refused 17 alone ≡ y) → refused 17 alone ≡ cond t (accepted f) y
 none-cond true f x y e k = let w : _≡_ {A = ℕ} 0 1 = cc in absurd (omega arith)
 none-cond false f x y e k = k e
 
-none-past : (o : Operand) → has row255 o ≡ false → (rs : List Row) → refused 17 [] ≡ spell rs o → refused 17 [] ≡ spell (rs ++ row255 ∷ []) o
+none-past : (o : Operand) → has row255 o ≡ false → (rs : List Row) → refused 17 alone ≡ spell rs o → refused 17 alone ≡ spell (rs ++ row255 ∷ []) o
 unfolding spell
 none-past o h [] e = spell-none o ∙ spell-past row255 [] o h
 none-past o h (r ∷ rs) e = none-cond (has r o) _ (spell rs o) _ e (none-past o h rs)
@@ -84,7 +84,7 @@ module _ (z : ℤ) where
   unfolding spelling bytesBy bytes
   as-form b k v e = ap bytesBy (table-left (integer z) false _ e)
 
-  as-none : refused 17 [] ≡ spell integerRows (integer z) → [] ≡ spelling charstringRows (integer z)
+  as-none : refused 17 alone ≡ spell integerRows (integer z) → [] ≡ spelling charstringRows (integer z)
   unfolding spelling bytesBy rowsOf
   as-none e = ap bytesBy (none-past (integer z) refl integerRows e)
 

@@ -14,7 +14,7 @@ use Rattle.number.specs.Number.{charstringRows}
 use Rattle.number.specs.Written.{spelling}
 use Rattle.number.specs.declared.Operand.{Operand}
 use Rattle.reading.specs.Rules.{Rules, type2}
-use Rattle.number.specs.Answer.{Answer, accepted, refused}
+use Rattle.number.specs.Answer.{Answer, accepted, refused, alone}
 use Rattle.number.specs.Call.{callee}
 use Rattle.index.specs.Index.{Place, extent, place, bytesBy, part}
 use Rattle.reading.specs.Lists.{Lists, Subrs, listed, countIn, entryBy, subrsOf}
@@ -219,12 +219,12 @@ ends-tail (masked p m ∷ f) = refl
 
 -- where an entry is refused by 9, 10 or 8, so is the step
 entry-refused : (levels tail : ℕ) (rest : List ℕ) (t : Now) (c : Entering) (y : Answer Place) (body : List ℕ) (n : ℕ) → endsInOperand (struck (t .shown)) ≡ ltb 0 tail
-    → enterBy levels tail y ≡ refused n [] → onEntry levels rest t c (entryBy body y) ≡ refuse n t
+    → enterBy levels tail y ≡ refused n alone → onEntry levels rest t c (entryBy body y) ≡ refuse n t
 unfolding onEntry entryBy enterBy
 entry-refused levels tail rest t c (refused m v) body n e q = let same : 9 ≡ n = cc in ap (λ (z : ℕ). refuse z t) same
 entry-refused levels tail rest t c (accepted p) body n e q = go-by (eqb levels 0) (ltb 0 tail) e q
   where
-    go-by : (x z : Bool) → endsInOperand (struck (t .shown)) ≡ z → cond x (refused 10 []) (cond z (accepted p) (refused 8 [])) ≡ refused n []
+    go-by : (x z : Bool) → endsInOperand (struck (t .shown)) ≡ z → cond x (refused 10 alone) (cond z (accepted p) (refused 8 alone)) ≡ refused n alone
         → cond x (refuse 10 t) (cond (endsInOperand (struck (t .shown))) (enter body rest (record { left = popped (t .left); shown = call c ∷ t .shown; within = c ∷ t .within })) (refuse 8 t)) ≡ refuse n t
     go-by true z e q = let same : 10 ≡ n = cc in ap (λ (y : ℕ). refuse y t) same
     go-by false true e q = let w : _≡_ {A = ℕ} 0 1 = cc in absurd (omega arith)
@@ -279,7 +279,7 @@ unfolding enterBy
 enter-by levels tail (refused m v) p q = let w : _≡_ {A = ℕ} 0 1 = cc in absurd (omega arith)
 enter-by levels tail (accepted r) p q = go-by (eqb levels 0) (ltb 0 tail) refl refl q
   where
-    go-by : (x z : Bool) → eqb levels 0 ≡ x → ltb 0 tail ≡ z → cond x (refused 10 []) (cond z (accepted r) (refused 8 [])) ≡ accepted p
+    go-by : (x z : Bool) → eqb levels 0 ≡ x → ltb 0 tail ≡ z → cond x (refused 10 alone) (cond z (accepted r) (refused 8 alone)) ≡ accepted p
         → (accepted r ≡ accepted p) × ((levels ≡ 0 → ⊥) × (0 < tail))
     go-by true z e f q = let w : _≡_ {A = ℕ} 0 1 = cc in absurd (omega arith)
     go-by false true e f q = (q, (eqb-false levels 0 e, ltb-true 0 tail f))
@@ -549,14 +549,14 @@ module _ (rules : Rules) (lists : Lists) (plain : Plain lists) (cs : List ℕ) (
           ∙ ap (onIndex levels (drop j cs) (h .now) which (listed lists which) at top) callee-is
 
       -- a target that is refused: the step is that refusal
-      refusal-step : (x : Answer ℕ) → callee exact count top ≡ x → (n : ℕ) → aimBy list levels (s .tail) x ≡ refused n []
+      refusal-step : (x : Answer ℕ) → callee exact count top ≡ x → (n : ℕ) → aimBy list levels (s .tail) x ≡ refused n alone
           → onIndex levels (drop j cs) (h .now) which (listed lists which) at top x ≡ refuse n (h .now)
       unfolding onIndex aimBy
       refusal-step (refused m v) c n e = let same : m ≡ n = cc in ap (λ (y : ℕ). refuse y (h .now)) same
       refusal-step (accepted m) c n e =
           ap (onEntry levels (drop j cs) (h .now) _) (entry-is m) ∙ by-place (place 2 list m) (part 2 list m) n e
         where
-          by-place : (y : Answer Place) (body : List ℕ) (n : ℕ) → enterBy levels (s .tail) y ≡ refused n []
+          by-place : (y : Answer Place) (body : List ℕ) (n : ℕ) → enterBy levels (s .tail) y ≡ refused n alone
               → onEntry levels (drop j cs) (h .now) (record { list = which; entry = m; at = at; index = top }) (entryBy body y) ≡ refuse n (h .now)
           by-place y body n q = entry-refused levels (s .tail) (drop j cs) (h .now) (record { list = which; entry = m; at = at; index = top }) y body n ends-is q
 

@@ -9,7 +9,7 @@ use lib.Dec.{leb, lit≤}
 use lib.ListN.{length, take, drop}
 use lib.Seq.{length-take-le, take-all}
 use borrow.Author.Tests.{le-leb, lt-leb}
-use Rattle.number.specs.Answer.{Answer, accepted, refused}
+use Rattle.number.specs.Answer.{Answer, accepted, refused, atToken, needingAt}
 use Rattle.index.specs.Index.{extent}
 use Rattle.reading.specs.Rules.{Rules, rulesOf}
 use Rattle.reading.specs.Lists.{countIn, listsOf}
@@ -128,24 +128,24 @@ module _ (out : List ℕ) (x : Run) where
   abbrev Answers : Answer Flattening → List ℕ → Type 0
   Answers a l = told a l ≡ outcome out x
 
-  pub by-stop : (k t : ℕ) → stopped-by k t ≡ measureOf x → Answers (refused k (t ∷ [])) out
+  pub by-stop : (k t : ℕ) → stopped-by k t ≡ measureOf x → Answers (refused k (atToken t)) out
   unfolding outcome placed verdictBy verdictOf
   by-stop k t e = go (x .how) refl e
     where
-      go : (h : How) → x .how ≡ h → stopped-by k t ≡ verdictOf x h → told (refused k (t ∷ [])) out ≡ told (verdictBy (length out) x (x .how)) (placed (flatOf x) out (verdictBy (length out) x (x .how)))
+      go : (h : How) → x .how ≡ h → stopped-by k t ≡ verdictOf x h → told (refused k (atToken t)) out ≡ told (verdictBy (length out) x (x .how)) (placed (flatOf x) out (verdictBy (length out) x (x .how)))
       go back q v = let w : _≡_ {A = ℕ} 0 1 = cc in absurd (omega arith)
       go ended q v = let w : _≡_ {A = ℕ} 0 1 = cc in absurd (omega arith)
       go (stopped m) q v =
           let a : k ≡ m = cc in
           let b : t ≡ tokens x = cc in
-          ap (λ (n : ℕ). told (refused n (t ∷ [])) out) a ∙ ap (λ (n : ℕ). told (refused m (n ∷ [])) out) b
+          ap (λ (n : ℕ). told (refused n (atToken t)) out) a ∙ ap (λ (n : ℕ). told (refused m (atToken n)) out) b
           ∙ ap (λ (h : How). told (verdictBy (length out) x h) (placed (flatOf x) out (verdictBy (length out) x h))) (sym q)
 
   module _ (n t : ℕ) (e : flat-of n t ≡ measureOf x) where
     record Is : Type 0 where
       size : n ≡ length (flatOf x)
       count : t ≡ tokens x
-      answers : (room : ℕ) → verdict room x ≡ cond (leb (length (flatOf x)) room) (accepted (record { size = length (flatOf x); tokens = tokens x })) (refused 13 (length (flatOf x) ∷ tokens x ∷ []))
+      answers : (room : ℕ) → verdict room x ≡ cond (leb (length (flatOf x)) room) (accepted (record { size = length (flatOf x); tokens = tokens x })) (refused 13 (needingAt (length (flatOf x)) (tokens x)))
 
     is : Is
     unfolding verdictOf verdictBy
@@ -156,11 +156,11 @@ module _ (out : List ℕ) (x : Run) where
         go ended q v = record { size = cc; count = cc; answers = λ room. ap (verdictBy room x) q }
         go (stopped m) q v = let w : _≡_ {A = ℕ} 0 1 = cc in absurd (omega arith)
 
-    pub by-short : length out < n → Answers (refused 13 (n ∷ t ∷ [])) out
+    pub by-short : length out < n → Answers (refused 13 (needingAt n t)) out
     unfolding outcome placed
     by-short l =
         let i = is in
-        let a : verdict (length out) x ≡ refused 13 (n ∷ t ∷ []) = i .answers (length out) ∙ rw (lt-leb (length (flatOf x)) (length out) (let s = i .size in omega arith), ← i .size, ← i .count) in
+        let a : verdict (length out) x ≡ refused 13 (needingAt n t) = i .answers (length out) ∙ rw (lt-leb (length (flatOf x)) (length out) (let s = i .size in omega arith), ← i .size, ← i .count) in
         sym (ap (λ (y : Answer Flattening). told y (placed (flatOf x) out y)) a)
 
     by-flat : n ≤ length out → (l : List ℕ) → l ≡ flatOf x ++ drop n out → Answers (accepted (record { size = n; tokens = t })) l

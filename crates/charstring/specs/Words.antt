@@ -5,7 +5,7 @@ use Prim.Native.Nat.{ℕ, zero, suc, _-_, _/_, _%_, _^_, _≤_, _<_}
 use lib.Dec.{leb, ltb, eqb}
 use lib.IntN.{pos}
 use lib.ListN.{getD, drop}
-use Rattle.number.specs.Answer.{Answer, accepted, refused}
+use Rattle.number.specs.Answer.{Answer, accepted, refused, alone}
 use Rattle.number.specs.Signed.{signed}
 use Rattle.number.specs.Call.{callee}
 use Rattle.number.specs.Number.{Number as NumberAt, charstringRows, readBy}
@@ -55,12 +55,12 @@ stackOf l (suc n) = unpackOf (getD l n 0) ∷ stackOf l n
 
 -- by document 01's order: 10, 8, where the entry is there
 unfoldable pub enterBy : ℕ → ℕ → Answer Place → Answer Place
-enterBy levels tail (refused n v) = refused 9 []
-enterBy levels tail (accepted p) = cond (eqb levels 0) (refused 10 []) (cond (ltb 0 tail) (accepted p) (refused 8 []))
+enterBy levels tail (refused n v) = refused 9 alone
+enterBy levels tail (accepted p) = cond (eqb levels 0) (refused 10 alone) (cond (ltb 0 tail) (accepted p) (refused 8 alone))
 
 -- 7, or 9 for the number; 9 for an entry that is absent
 unfoldable pub aimBy : List ℕ → ℕ → ℕ → Answer ℕ → Answer Place
-aimBy list levels tail (refused n v) = refused n []
+aimBy list levels tail (refused n v) = refused n alone
 aimBy list levels tail (accepted k) = enterBy levels tail (place 2 list k)
 
 unfoldable pub aimed : List ℕ → ℕ → Operand → Bool → ℕ → ℕ → Answer Place
@@ -68,7 +68,7 @@ aimed list count o exact levels tail = aimBy list levels tail (callee exact coun
 
 abbrev pub targetOf : Target → Answer Place
 targetOf (Enter from to) = accepted (record { start = from; size = to - from })
-targetOf (No k) = refused (numberOf k) []
+targetOf (No k) = refused (numberOf k) alone
 
 -- an entry that is entered lies within the list
 abbrev pub Inside : ℕ → Target → Type 0

@@ -69,7 +69,7 @@ pub fn write<'a>(
         Measured::Stopped(k, tokens) => Flattened::Refused(k, tokens),
         Measured::Flat(n, tokens) => {
             if out.len() < n {
-                return Flattened::Short(n, tokens);
+                return Flattened::NoRoom(n, tokens);
             }
             if n <= held.len() {
                 keep(out, n, &held);

@@ -26,7 +26,7 @@ pub(crate) fn token_at(cs: &[u8], i: usize) -> Token
 {
     match read_charstring_number(&cs[i..]) {
         NumberRead::Read(o, width) => Token::Number(i + width, o),
-        NumberRead::Missing => Token::Lacking,
+        NumberRead::Lacking => Token::Lacking,
         NumberRead::NoNumber => operator_at(cs, i),
     }
 }

@@ -55,7 +55,7 @@ fn tell_flattened(flattened: Flattened, room: &[u8]) {
         Flattened::BadGlobals => say(b"1: the global list is not well formed\n"),
         Flattened::BadLocals => say(b"2: the local list is not well formed\n"),
         Flattened::Refused(refusal, tokens) => tell_refusal(refusal, tokens),
-        Flattened::Short(n, tokens) => tell_short(n, tokens),
+        Flattened::NoRoom(n, tokens) => tell_short(n, tokens),
     }
 }
 

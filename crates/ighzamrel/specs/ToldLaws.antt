@@ -2,14 +2,14 @@
 use mathlib.Core.Path.{_≡_, sym, ap, _∙_}
 use Prim.Native.Nat.{ℕ}
 use mathlib.Core.List.{List}
-use Rattle.number.specs.Answer.{Answer, accepted, refused, Outcome}
+use Rattle.number.specs.Answer.{Values, Answer, accepted, refused, Outcome}
 use Rattle.ighzamrel.specs.Told.{told, tell, tellLength}
 
 pub tell-accepted : {A : Type 0} (a : Answer A) (x old : A) → accepted x ≡ a → told 0 x ≡ tell a old
 unfolding tell
 tell-accepted a x old e = ap (λ b. tell b old) e
 
-pub tell-refused : {A : Type 0} (a : Answer A) (old : A) (n : ℕ) (v : List ℕ) → refused n v ≡ a → told n old ≡ tell a old
+pub tell-refused : {A : Type 0} (a : Answer A) (old : A) (n : ℕ) (v : Values) → refused n v ≡ a → told n old ≡ tell a old
 unfolding tell
 tell-refused a old n v e = ap (λ b. tell b old) e
 

@@ -42,7 +42,7 @@ pub extern "C" fn ighzamrel_flatten<'a>(
             *tokens = count;
             number_of(why)
         }
-        Flattened::Short(n, count) => {
+        Flattened::NoRoom(n, count) => {
             *length = n;
             *tokens = count;
             13

@@ -3,11 +3,11 @@ use index::EntryRead;
 use index::IndexRead;
 use index::read_entry;
 use index::read_index;
-use writing::IndexWritten;
-use writing::write_index;
+use index_writing::IndexWritten;
+use index_writing::write_index;
 ghost use mathlib.Core.Path.{_≡_};
 ghost use Rattle.index.specs.Index.{extent, place as entryPlace};
-ghost use Rattle.writing.specs.Writing.{writeIndex};
+ghost use Rattle.index_writing.specs.Writing.{writeIndex};
 ghost use Rattle.ighzamrel.specs.Told.{told, tell, tellLength};
 
 // The INDEX at the start of the bytes: 0, how many entries it has and how many bytes it takes; or 20
@@ -66,7 +66,7 @@ pub extern "C" fn ighzamrel_write_index(
             *length = n;
             0
         }
-        IndexWritten::Short(n) => {
+        IndexWritten::NoRoom(n) => {
             *length = n;
             13
         }

@@ -34,7 +34,7 @@ pub extern "C" fn ighzamrel_read_charstring_number(
             *width = n;
             0
         }
-        NumberRead::Missing => 4,
+        NumberRead::Lacking => 4,
         NumberRead::NoNumber => 6,
     }
 }
@@ -55,7 +55,7 @@ pub extern "C" fn ighzamrel_read_dict_integer(
             *width = taken;
             0
         }
-        NumberRead::Missing => 4,
+        NumberRead::Lacking => 4,
         NumberRead::NoNumber => 6,
     }
 }
@@ -76,7 +76,7 @@ pub extern "C" fn ighzamrel_write_charstring_number(
             *length = n;
             0
         }
-        NumberWritten::Short(n) => {
+        NumberWritten::NoRoom(n) => {
             *length = n;
             13
         }
@@ -98,7 +98,7 @@ pub extern "C" fn ighzamrel_write_dict_integer(
             *length = n;
             0
         }
-        IntegerWritten::Short(n) => {
+        IntegerWritten::NoRoom(n) => {
             *length = n;
             13
         }

@@ -2,7 +2,7 @@
 use mathlib.Core.Path.{_≡_, refl}
 use mathlib.Core.List.{List, [], _∷_}
 use Prim.Native.Nat.{ℕ}
-use Rattle.number.specs.Answer.{refused}
+use Rattle.number.specs.Answer.{refused, alone}
 use Rattle.number.specs.BigEndian.{beAt}
 use Rattle.index.specs.Index.{offset, byLast, bySize, byCount, extent, absent, placeBy, placeIn, place, placeSeen, bytesBy, part, startBy, partBy}
 use Rattle.index.specs.Formed.{yes, unread, emptied, bad, entriesFrom, formedBy, formation}
@@ -27,11 +27,11 @@ end = 0 ∷ 1 ∷ 1 ∷ 3 ∷ 3 ∷ 0xAA ∷ 0xBB ∷ []
 abbrev back : List ℕ
 back = 0 ∷ 3 ∷ 2 ∷ 0 ∷ 1 ∷ 0 ∷ 3 ∷ 0 ∷ 2 ∷ 0 ∷ 3 ∷ 7 ∷ 8 ∷ 9 ∷ []
 
-pub reads : (extent 2 two ≡ has 2 7) × (extent 2 none ≡ has 0 6) × (extent 2 (0 ∷ 0 ∷ 7 ∷ []) ≡ has 0 2) × (extent 2 [] ≡ refused 20 []) × (extent 2 (0 ∷ 1 ∷ 5 ∷ []) ≡ refused 21 []) × (extent 2 back ≡ has 3 13)
+pub reads : (extent 2 two ≡ has 2 7) × (extent 2 none ≡ has 0 6) × (extent 2 (0 ∷ 0 ∷ 7 ∷ []) ≡ has 0 2) × (extent 2 [] ≡ refused 20 alone) × (extent 2 (0 ∷ 1 ∷ 5 ∷ []) ≡ refused 21 alone) × (extent 2 back ≡ has 3 13)
 unfolding extent byCount bySize byLast offset beAt
 reads = (refl, refl, refl, refl, refl, refl)
 
-pub entries : (place 2 two 1 ≡ lies 7 0) × (place 2 two 2 ≡ refused 25 []) × (place 2 none 0 ≡ refused 25 []) × (place 2 late 0 ≡ lies 6 1) × (place 2 end 0 ≡ lies 7 0) × (place 2 back 1 ≡ refused 25 [])
+pub entries : (place 2 two 1 ≡ lies 7 0) × (place 2 two 2 ≡ refused 25 alone) × (place 2 none 0 ≡ refused 25 alone) × (place 2 late 0 ≡ lies 6 1) × (place 2 end 0 ≡ lies 7 0) × (place 2 back 1 ≡ refused 25 alone)
 unfolding place placeIn placeBy absent extent byCount bySize byLast offset beAt
 entries = (refl, refl, refl, refl, refl, refl)
 

@@ -7,7 +7,7 @@ use native.Mathlib.Nat.{zero-add, sub-zero}
 use native.Mathlib.Omega.{arith}
 use lib.Dec.{eqb, ltb}
 use borrow.Author.Tests.{eq-eqb, ne-eqb, eqb-true, ltb-true, ltb-false}
-use Rattle.number.specs.Answer.{Answer, accepted, refused}
+use Rattle.number.specs.Answer.{Answer, accepted, refused, alone}
 use Rattle.number.specs.BigEndian.{beAt}
 use Rattle.index.specs.Index.{Extent, Place, extent, place}
 use Rattle.index.specs.IndexLaws.{has, Full, full-read}
@@ -28,14 +28,14 @@ module _ (w : ℕ) (s : List ℕ) where
     unfolding entriesFrom
     next-entry e = rw (left, ← e)
 
-    pub bad-entry : (k : ℕ) → refused k [] ≡ place w s i → bad i ≡ entriesFrom w s i (n - i)
+    pub bad-entry : (k : ℕ) → refused k alone ≡ place w s i → bad i ≡ entriesFrom w s i (n - i)
     unfolding entriesFrom
     bad-entry k e = rw (left, ← e)
 
 -- ---- by what the read answers
 
 module _ (w : ℕ) (s : List ℕ) where
-  pub not-read : (k : ℕ) → refused k [] ≡ extent w s → unread k ≡ formation w s
+  pub not-read : (k : ℕ) → refused k alone ≡ extent w s → unread k ≡ formation w s
   unfolding formation formedBy
   not-read k e = rw (← e)
 

@@ -6,7 +6,7 @@ use mathlib.Core.Bool.{Bool, cond, _||_}
 use mathlib.Core.List.{List, []}
 use lib.ListN.{length, getD, take, drop}
 use lib.Dec.{leb, ltb, eqb}
-use Rattle.number.specs.Answer.{Answer, accepted, refused}
+use Rattle.number.specs.Answer.{Answer, accepted, refused, alone}
 use Rattle.number.specs.BigEndian.{beAt}
 use Rattle.index.specs.declared.read.IndexRead.{IndexRead}
 use Rattle.index.specs.declared.read.IndexRead.the-variants.{Read, Lacking, BadSize}
@@ -34,24 +34,24 @@ pub record Extent : Type 0 where
 unfoldable pub byLast : List ℕ → ℕ → ℕ → ℕ → Answer Extent
 byLast s n start last =
     cond (eqb last 0) (accepted (record { entries = 0; taken = start }))
-    (cond (ltb (length s) (start + (last - 1))) (refused 20 [])
+    (cond (ltb (length s) (start + (last - 1))) (refused 20 alone)
     (accepted (record { entries = n; taken = start + (last - 1) })))
 
 unfoldable pub bySize : ℕ → List ℕ → ℕ → ℕ → Answer Extent
 bySize w s n z =
-    cond (eqb z 0 || ltb 4 z) (refused 21 [])
-    (cond (ltb (length s) (dataStart w n z)) (refused 20 [])
+    cond (eqb z 0 || ltb 4 z) (refused 21 alone)
+    (cond (ltb (length s) (dataStart w n z)) (refused 20 alone)
     (byLast s n (dataStart w n z) (offset w s z n)))
 
 unfoldable pub byCount : ℕ → List ℕ → ℕ → Answer Extent
 byCount w s n =
     cond (eqb n 0) (accepted (record { entries = 0; taken = w }))
-    (cond (ltb (length s) (w + 1)) (refused 20 [])
+    (cond (ltb (length s) (w + 1)) (refused 20 alone)
     (bySize w s n (getD s w 0)))
 
 -- the INDEX at the start of s
 unfoldable pub extent : ℕ → List ℕ → Answer Extent
-extent w s = cond (ltb (length s) w) (refused 20 []) (byCount w s (beAt s 0 w))
+extent w s = cond (ltb (length s) w) (refused 20 alone) (byCount w s (beAt s 0 w))
 
 -- ---- an entry
 
@@ -66,7 +66,7 @@ unfoldable pub absent : ℕ → Extent → ℕ → ℕ → ℕ → Bool
 absent i x start a b = leb (x .entries) i || (eqb a 0 || (eqb b 0 || (ltb b a || ltb (x .taken) (start + (b - 1)))))
 
 unfoldable pub placeBy : ℕ → Extent → ℕ → ℕ → ℕ → Answer Place
-placeBy i x start a b = cond (absent i x start a b) (refused 25 []) (accepted (record { start = start + (a - 1); size = b - a }))
+placeBy i x start a b = cond (absent i x start a b) (refused 25 alone) (accepted (record { start = start + (a - 1); size = b - a }))
 
 unfoldable pub placeIn : ℕ → List ℕ → ℕ → Answer Extent → Answer Place
 placeIn w s i (accepted x) =
@@ -81,7 +81,7 @@ place w s i = placeIn w s i (extent w s)
 -- z is not 1 to 4, or offsets are lacking.
 unfoldable pub placeSeen : ℕ → List ℕ → ℕ → ℕ → ℕ → Answer Place
 placeSeen w s n z i =
-    cond (leb n i || (eqb z 0 || (ltb 4 z || ltb (length s) (dataStart w n z)))) (refused 25 [])
+    cond (leb n i || (eqb z 0 || (ltb 4 z || ltb (length s) (dataStart w n z)))) (refused 25 alone)
     (placeBy i (record { entries = n; taken = length s }) (dataStart w n z) (offset w s z i) (offset w s z (i + 1)))
 
 unfoldable pub bytesBy : List ℕ → Answer Place → List ℕ
@@ -119,11 +119,11 @@ partSeen w at s n z i = partBy at s (placeSeen w s n z i)
 
 abbrev pub indexRead : IndexRead → Answer Extent
 indexRead (Read n t) = accepted (record { entries = n; taken = t })
-indexRead Lacking = refused 20 []
-indexRead BadSize = refused 21 []
+indexRead Lacking = refused 20 alone
+indexRead BadSize = refused 21 alone
 
 abbrev pub entryRead : EntryRead → Answer Place
 entryRead (Entry a n) = accepted (record { start = a; size = n })
-entryRead NoBytes = refused 20 []
-entryRead NoSize = refused 21 []
-entryRead Absent = refused 25 []
+entryRead NoBytes = refused 20 alone
+entryRead NoSize = refused 21 alone
+entryRead Absent = refused 25 alone

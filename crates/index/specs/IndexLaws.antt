@@ -8,7 +8,7 @@ use lib.ListN.{length, getD, take, drop, length-drop}
 use lib.Seq.{length-take-le}
 use lib.Dec.{leb, ltb, eqb}
 use borrow.Author.Tests.{lt-ltb, le-ltb, le-leb, lt-leb, eq-eqb, ne-eqb, ltb-false, leb-false, eqb-true, eqb-false}
-use Rattle.number.specs.Answer.{Answer, accepted, refused}
+use Rattle.number.specs.Answer.{Values, Answer, accepted, refused, alone}
 use Rattle.number.specs.BigEndian.{beAt}
 use Rattle.index.specs.Index.{Extent, Place, dataStart, offset, byLast, bySize, byCount, extent, absent, placeBy, placeIn, place, bytesBy, part, startBy, partBy}
 use Rattle.index.specs.OffsetLaws.{start-is}
@@ -33,10 +33,10 @@ or-none false b e = (refl, e)
 same : {A : Type 0} {x y : A} → accepted x ≡ accepted y → x ≡ y
 same e = cc
 
-pub not-refused : {A : Type 0} {x : A} {k : ℕ} {v : List ℕ} → accepted x ≡ refused k v → ⊥
+pub not-refused : {A : Type 0} {x : A} {k : ℕ} {v : Values} → accepted x ≡ refused k v → ⊥
 not-refused e = let z : _≡_ {A = ℕ} 0 1 = cc in omega arith
 
-pub past : {A : Type 0} (t : Bool) (k : ℕ) (x : Answer A) {y : A} → accepted y ≡ cond t (refused k []) x → (t ≡ false) × (accepted y ≡ x)
+pub past : {A : Type 0} (t : Bool) (k : ℕ) (x : Answer A) {y : A} → accepted y ≡ cond t (refused k alone) x → (t ≡ false) × (accepted y ≡ x)
 past true k x e = absurd (not-refused e)
 past false k x e = (refl, e)
 
@@ -79,7 +79,7 @@ pub data Shape (w : ℕ) (s : List ℕ) (n t : ℕ) : Type 0 where
 -- ---- reading
 
 module _ (w : ℕ) (s : List ℕ) where
-  pub no-count : length s < w → refused 20 [] ≡ extent w s
+  pub no-count : length s < w → refused 20 alone ≡ extent w s
   unfolding extent
   no-count h = rw (lt-ltb (length s) w h)
 
@@ -96,10 +96,10 @@ module _ (w : ℕ) (s : List ℕ) where
       n≢ : n ≡ 0 → ⊥
       n≢ z = omega arith
 
-      pub no-size : w ≤ length s → length s < w + 1 → refused 20 [] ≡ extent w s
+      pub no-size : w ≤ length s → length s < w + 1 → refused 20 alone ≡ extent w s
       unfolding byCount
       no-size h k =
-          let t : refused 20 [] ≡ byCount w s n = rw (ne-eqb n 0 n≢, lt-ltb (length s) (w + 1) k) in t ∙ to-count n e h
+          let t : refused 20 alone ≡ byCount w s n = rw (ne-eqb n 0 n≢, lt-ltb (length s) (w + 1) k) in t ∙ to-count n e h
 
       module _ (h : w + 1 ≤ length s) where
         to-size : bySize w s n (getD s w 0) ≡ extent w s
@@ -108,19 +108,19 @@ module _ (w : ℕ) (s : List ℕ) where
             let t : bySize w s n (getD s w 0) ≡ byCount w s n = rw (ne-eqb n 0 n≢, le-ltb (length s) (w + 1) h) in
             t ∙ to-count n e (omega arith)
 
-        pub size-zero : getD s w 0 ≡ 0 → refused 21 [] ≡ extent w s
+        pub size-zero : getD s w 0 ≡ 0 → refused 21 alone ≡ extent w s
         unfolding bySize
-        size-zero z = let t : refused 21 [] ≡ bySize w s n (getD s w 0) = rw (eq-eqb (getD s w 0) 0 z) in t ∙ to-size
+        size-zero z = let t : refused 21 alone ≡ bySize w s n (getD s w 0) = rw (eq-eqb (getD s w 0) 0 z) in t ∙ to-size
 
-        pub size-big : 4 < getD s w 0 → refused 21 [] ≡ extent w s
+        pub size-big : 4 < getD s w 0 → refused 21 alone ≡ extent w s
         unfolding bySize
-        size-big k = let t : refused 21 [] ≡ bySize w s n (getD s w 0) = rw (lt-ltb 4 (getD s w 0) k, or-true) in t ∙ to-size
+        size-big k = let t : refused 21 alone ≡ bySize w s n (getD s w 0) = rw (lt-ltb 4 (getD s w 0) k, or-true) in t ∙ to-size
 
-        pub no-offsets : 0 < getD s w 0 → getD s w 0 ≤ 4 → length s < dataOf w s n → refused 20 [] ≡ extent w s
+        pub no-offsets : 0 < getD s w 0 → getD s w 0 ≤ 4 → length s < dataOf w s n → refused 20 alone ≡ extent w s
         unfolding bySize
         no-offsets p k l =
             let z≢ : getD s w 0 ≡ 0 → ⊥ = λ z. omega arith in
-            let t : refused 20 [] ≡ bySize w s n (getD s w 0) = rw (ne-eqb (getD s w 0) 0 z≢, le-ltb 4 (getD s w 0) k, lt-ltb (length s) (dataOf w s n) l) in
+            let t : refused 20 alone ≡ bySize w s n (getD s w 0) = rw (ne-eqb (getD s w 0) 0 z≢, le-ltb 4 (getD s w 0) k, lt-ltb (length s) (dataOf w s n) l) in
             t ∙ to-size
 
   module _ {n : ℕ} (h : Headed w s n) where
@@ -138,13 +138,13 @@ module _ (w : ℕ) (s : List ℕ) where
         let t : has 0 (dataOf w s n) ≡ byLast s n (dataOf w s n) (offsetOf w s n) = rw (eq-eqb (offsetOf w s n) 0 e) in
         t ∙ to-last
 
-    pub no-data : 0 < offsetOf w s n → length s < reach w s n → refused 20 [] ≡ extent w s
+    pub no-data : 0 < offsetOf w s n → length s < reach w s n → refused 20 alone ≡ extent w s
     unfolding byLast
     no-data p k =
         let l = offsetOf w s n in
         let b = dataOf w s n in
         let l≢ : l ≡ 0 → ⊥ = λ e. omega arith in
-        let t : refused 20 [] ≡ byLast s n b l = rw (ne-eqb l 0 l≢, lt-ltb (length s) (b + (l - 1)) k) in
+        let t : refused 20 alone ≡ byLast s n b l = rw (ne-eqb l 0 l≢, lt-ltb (length s) (b + (l - 1)) k) in
         t ∙ to-last
 
   pub full-read : {n t : ℕ} → Full w s n → t ≡ reach w s n → has n t ≡ extent w s
@@ -166,7 +166,7 @@ taken-of x = x .taken
 
 module _ (w : ℕ) (s : List ℕ) (n t : ℕ) where
   by-last : (m : ℕ) → Headed w s m → (z : Bool) → eqb (offsetOf w s m) 0 ≡ z
-      → has n t ≡ cond z (has 0 (dataOf w s m)) (cond (ltb (length s) (reach w s m)) (refused 20 []) (has m (reach w s m)))
+      → has n t ≡ cond z (has 0 (dataOf w s m)) (cond (ltb (length s) (reach w s m)) (refused 20 alone) (has m (reach w s m)))
       → Shape w s n t
   by-last m h true e a = emptied h (eqb-true _ _ e) (ap entries-of (same a)) (ap taken-of (same a))
   by-last m h false e a =
@@ -178,7 +178,7 @@ module _ (w : ℕ) (s : List ℕ) (n t : ℕ) where
       rw en (full (record { head = h; last-pos = omega arith; inside = ltb-false (length s) (reach w s m) (g .0) }) et)
 
   by-count : (z : Bool) → eqb (beAt s 0 w) 0 ≡ z → w ≤ length s
-      → has n t ≡ cond z (has 0 w) (cond (ltb (length s) (w + 1)) (refused 20 []) (bySize w s (beAt s 0 w) (getD s w 0)))
+      → has n t ≡ cond z (has 0 w) (cond (ltb (length s) (w + 1)) (refused 20 alone) (bySize w s (beAt s 0 w) (getD s w 0)))
       → Shape w s n t
   unfolding bySize byLast
   by-count true e h a = none h (eqb-true _ _ e) (ap entries-of (same a)) (ap taken-of (same a))
@@ -231,15 +231,15 @@ module _ (w : ℕ) (s : List ℕ) (n t : ℕ) where
 
 -- by its two offsets a and b
 module _ (i : ℕ) (x : Extent) (d a b : ℕ) where
-  pub by-zero : a ≡ 0 → refused 25 [] ≡ placeBy i x d a b
+  pub by-zero : a ≡ 0 → refused 25 alone ≡ placeBy i x d a b
   unfolding placeBy absent
   by-zero e = rw (eq-eqb a 0 e, or-true)
 
-  pub by-descent : b < a → refused 25 [] ≡ placeBy i x d a b
+  pub by-descent : b < a → refused 25 alone ≡ placeBy i x d a b
   unfolding placeBy absent
   by-descent h = simp (lt-ltb b a h, or-true)
 
-  pub by-passing : x .taken < d + (b - 1) → refused 25 [] ≡ placeBy i x d a b
+  pub by-passing : x .taken < d + (b - 1) → refused 25 alone ≡ placeBy i x d a b
   unfolding placeBy absent
   by-passing h = simp (lt-ltb (x .taken) (d + (b - 1)) h, or-true)
 
@@ -251,11 +251,11 @@ module _ (i : ℕ) (x : Extent) (d a b : ℕ) where
       rw (at, long, lt-leb (x .entries) i h, ne-eqb a 0 a≢, ne-eqb b 0 b≢, le-ltb b a k, le-ltb (x .taken) (d + (b - 1)) l)
 
 module _ (w : ℕ) (s : List ℕ) (i : ℕ) where
-  pub not-read : (k : ℕ) → refused k [] ≡ extent w s → refused k [] ≡ place w s i
+  pub not-read : (k : ℕ) → refused k alone ≡ extent w s → refused k alone ≡ place w s i
   unfolding place placeIn
   not-read k e = rw (← e)
 
-  pub past-count : {n t : ℕ} → has n t ≡ extent w s → n ≤ i → refused 25 [] ≡ place w s i
+  pub past-count : {n t : ℕ} → has n t ≡ extent w s → n ≤ i → refused 25 alone ≡ place w s i
   unfolding place placeIn placeBy absent
   past-count {n} e h = rw (← e, le-leb n i h)
 
@@ -269,13 +269,13 @@ module _ (w : ℕ) (s : List ℕ) (i : ℕ) where
     pub to-place-by : {t : ℕ} → t ≡ reach w s n → placeBy i (record { entries = n; taken = t }) (dataOf w s n) a b ≡ place w s i
     to-place-by e = ap (λ (t : ℕ). placeBy i (record { entries = n; taken = t }) (dataOf w s n) a b) e ∙ to-place
 
-    pub zero-offset : a ≡ 0 → refused 25 [] ≡ place w s i
+    pub zero-offset : a ≡ 0 → refused 25 alone ≡ place w s i
     zero-offset e = by-zero _ _ _ _ _ e ∙ to-place
 
-    pub descends : b < a → refused 25 [] ≡ place w s i
+    pub descends : b < a → refused 25 alone ≡ place w s i
     descends h = by-descent _ _ _ _ _ h ∙ to-place
 
-    pub passes : reach w s n < dataOf w s n + (b - 1) → refused 25 [] ≡ place w s i
+    pub passes : reach w s n < dataOf w s n + (b - 1) → refused 25 alone ≡ place w s i
     passes h = by-passing _ _ _ _ _ h ∙ to-place
 
     pub present : {x y : ℕ} → i < n → 0 < a → a ≤ b → dataOf w s n + (b - 1) ≤ reach w s n
@@ -381,7 +381,7 @@ place-inside w s i (accepted p) e = inside w s i (p .start) (p .size) e
 place-inside w s i (refused k v) e = tt
 
 -- an entry that is refused has no bytes
-pub no-part : (w : ℕ) (s : List ℕ) (i k : ℕ) → refused k [] ≡ place w s i → [] ≡ part w s i
+pub no-part : (w : ℕ) (s : List ℕ) (i k : ℕ) → refused k alone ≡ place w s i → [] ≡ part w s i
 unfolding part bytesBy
 no-part w s i k h = rw (← h)
 
@@ -392,6 +392,6 @@ module _ (at : ℕ × ℕ) (s : List ℕ) where
   unfolding partBy startBy bytesBy
   part-lies a m p q = rw (p, q)
 
-  pub part-none : (k : ℕ) (v : List ℕ) → record { at = at; bytes = [] } ≡ partBy at s (refused k v)
+  pub part-none : (k : ℕ) (v : Values) → record { at = at; bytes = [] } ≡ partBy at s (refused k v)
   unfolding partBy startBy bytesBy
   part-none k v = refl

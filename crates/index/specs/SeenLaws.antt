@@ -9,7 +9,7 @@ use lib.Dec.{leb, ltb, eqb}
 use lib.ListN.{length, getD, take, drop, take-append-drop}
 use lib.Seq.{length-take-le}
 use borrow.Author.Tests.{lt-ltb, le-ltb, le-leb, lt-leb, eq-eqb, ne-eqb, ltb-true, ltb-false}
-use Rattle.number.specs.Answer.{Answer, accepted, refused}
+use Rattle.number.specs.Answer.{Answer, accepted, refused, alone}
 use Rattle.index.specs.Index.{Place, dataStart, offset, extent, placeBy, place, placeSeen, partBy, partAt, partSeen, bytesBy, startBy}
 use Rattle.index.specs.IndexLaws.{has, offsetOf, Full, reach, Inside, entries-full, taken-le, past-count, to-place-by, between-inside, or-true, past}
 use Rattle.index.specs.OffsetLaws.{start-mono}
@@ -18,19 +18,19 @@ use Rattle.index.specs.AfterLaws.{offset-after, bytes-after}
 -- ---- what it answers
 
 module _ (w : ℕ) (s : List ℕ) (n z i : ℕ) where
-  pub seen-past : n ≤ i → refused 25 [] ≡ placeSeen w s n z i
+  pub seen-past : n ≤ i → refused 25 alone ≡ placeSeen w s n z i
   unfolding placeSeen
   seen-past h = rw (le-leb n i h)
 
-  pub seen-unsized : z ≡ 0 → refused 25 [] ≡ placeSeen w s n z i
+  pub seen-unsized : z ≡ 0 → refused 25 alone ≡ placeSeen w s n z i
   unfolding placeSeen
   seen-unsized h = simp (eq-eqb z 0 h, or-true)
 
-  pub seen-oversized : 4 < z → refused 25 [] ≡ placeSeen w s n z i
+  pub seen-oversized : 4 < z → refused 25 alone ≡ placeSeen w s n z i
   unfolding placeSeen
   seen-oversized h = simp (lt-ltb 4 z h, or-true)
 
-  pub seen-short : length s < dataStart w n z → refused 25 [] ≡ placeSeen w s n z i
+  pub seen-short : length s < dataStart w n z → refused 25 alone ≡ placeSeen w s n z i
   unfolding placeSeen
   seen-short h = simp (lt-ltb (length s) (dataStart w n z) h, or-true)
 

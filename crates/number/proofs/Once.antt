@@ -9,17 +9,16 @@ use lib.IntN.{ℤ}
 use borrow.Fn.Kinds.{Dens, resT, endedOf}
 use contract.Lifetimes.{Lfts}
 use denote.Triple.Clauses.{AtExit}
-use Rattle.number.specs.Answer.{Answer, accepted, refused, Outcome}
-use Rattle.number.specs.BigEndian.{Put}
+use Rattle.number.specs.Answer.{Values, alone, atToken, needing, needingAt, Answer, accepted, refused, Outcome}
 use Rattle.number.specs.Number.{Number, numberRead}
 use Rattle.number.specs.Written.{numberWritten, integerWritten}
 use Rattle.number.specs.Call.{wholeOf, calleeOf}
 use Rattle.number.specs.declared.read.NumberRead.{NumberRead}
-use Rattle.number.specs.declared.read.NumberRead.the-variants.{Read, Missing, NoNumber}
+use Rattle.number.specs.declared.read.NumberRead.the-variants.{Read, Lacking, NoNumber}
 use Rattle.number.specs.declared.write.NumberWritten.{NumberWritten}
-use Rattle.number.specs.declared.write.NumberWritten.the-variants.{Bytes, Short, Outside}
+use Rattle.number.specs.declared.write.NumberWritten.the-variants.{Bytes, NoRoom, Outside}
 use Rattle.number.specs.declared.write.IntegerWritten.{IntegerWritten}
-use Rattle.number.specs.declared.write.IntegerWritten.the-variants.{Bytes as Stored, Short as NoRoom}
+use Rattle.number.specs.declared.write.IntegerWritten.the-variants.{Bytes as Stored, NoRoom as Full}
 use Rattle.number.specs.declared.call.Whole.{Whole}
 use Rattle.number.specs.declared.call.Whole.the-variants.{Is, Not}
 use Rattle.number.specs.declared.call.Callee.{Callee}
@@ -47,14 +46,16 @@ use Rattle.number.proofs.big_endian.write_be.Reads as write-be-reads
 one-of : {A B : Type 0} (to : A → B) (back : B → A) → ((x : A) → back (to x) ≡ x) → (x y : A) → to x ≡ to y → x ≡ y
 one-of to back undone x y e = sym (undone x) ∙ ap back e ∙ undone y
 
--- the value of a list of one
-sole : List ℕ → ℕ
-sole [] = 0
-sole (n ∷ l) = n
+-- the length that comes with a refusal
+lengthIn : Values → ℕ
+lengthIn alone = 0
+lengthIn (atToken t) = 0
+lengthIn (needing n) = n
+lengthIn (needingAt n t) = n
 
 read-back : Answer Number → NumberRead
 read-back (accepted x) = Read (x .operand) (x .width)
-read-back (refused n v) = cond (eqb n 4) Missing NoNumber
+read-back (refused n v) = cond (eqb n 4) Lacking NoNumber
 
 one-read : (x y : NumberRead) → numberRead x ≡ numberRead y → x ≡ y
 unfolding read-back
@@ -62,33 +63,33 @@ one-read = one-of numberRead read-back undone
   where
     undone : (x : NumberRead) → read-back (numberRead x) ≡ x
     undone (Read o n) = refl
-    undone Missing = refl
+    undone Lacking = refl
     undone NoNumber = refl
 
 written-back : Answer ℕ → NumberWritten
 written-back (accepted n) = Bytes n
-written-back (refused n v) = cond (eqb n 13) (Short (sole v)) Outside
+written-back (refused n v) = cond (eqb n 13) (NoRoom (lengthIn v)) Outside
 
 one-written : (x y : NumberWritten) → numberWritten x ≡ numberWritten y → x ≡ y
-unfolding written-back sole
+unfolding written-back lengthIn
 one-written = one-of numberWritten written-back undone
   where
     undone : (x : NumberWritten) → written-back (numberWritten x) ≡ x
     undone (Bytes n) = refl
-    undone (Short n) = refl
+    undone (NoRoom n) = refl
     undone Outside = refl
 
 integer-back : Answer ℕ → IntegerWritten
 integer-back (accepted n) = Stored n
-integer-back (refused n v) = NoRoom (sole v)
+integer-back (refused n v) = Full (lengthIn v)
 
 one-integer : (x y : IntegerWritten) → integerWritten x ≡ integerWritten y → x ≡ y
-unfolding integer-back sole
+unfolding integer-back lengthIn
 one-integer = one-of integerWritten integer-back undone
   where
     undone : (x : IntegerWritten) → integer-back (integerWritten x) ≡ x
     undone (Stored n) = refl
-    undone (NoRoom n) = refl
+    undone (Full n) = refl
 
 whole-back : Answer ℤ → Whole
 whole-back (accepted z) = Is z
@@ -115,8 +116,11 @@ one-callee = one-of calleeOf callee-back undone
     undone NotWhole = refl
     undone Past = refl
 
-answered : {x y : Outcome} → x ≡ y → x .answer ≡ y .answer
-answered e = ap (λ (o : Outcome). o .answer) e
+answered : {A : Type 0} {x y : Outcome A} → x ≡ y → x .answer ≡ y .answer
+answered {A} e = ap (λ (o : Outcome A). o .answer) e
+
+left-as : {A : Type 0} {x y : Outcome A} → x ≡ y → x .left ≡ y .left
+left-as {A} e = ap (λ (o : Outcome A). o .left) e
 
 -- ---- each public function
 
@@ -131,12 +135,12 @@ read-dict-integer-once κs a r r′ x x′ p p′ = one-read r r′ (p ∙ sym p
 pub write-charstring-number-once : (κs : Lfts 1) (a : Dens κs charstring-write-kinds.ps) (r r′ : resT charstring-write-kinds.r κs .Denot)
     (x x′ : AtExit (endedOf 1 charstring-write-kinds.ps charstring-write-kinds.r) κs)
     → charstring-write-reads.Post κs a r x → charstring-write-reads.Post κs a r′ x′ → (r ≡ r′) × (x .1 .0 .now ≡ x′ .1 .0 .now)
-write-charstring-number-once κs a r r′ x x′ p p′ = (one-written r r′ (answered (p ∙ sym p′)), ap (λ (o : Outcome). o .left) (p ∙ sym p′))
+write-charstring-number-once κs a r r′ x x′ p p′ = (one-written r r′ (answered (p ∙ sym p′)), left-as (p ∙ sym p′))
 
 pub write-dict-integer-once : (κs : Lfts 1) (a : Dens κs dict-write-kinds.ps) (r r′ : resT dict-write-kinds.r κs .Denot)
     (x x′ : AtExit (endedOf 1 dict-write-kinds.ps dict-write-kinds.r) κs)
     → dict-write-reads.Post κs a r x → dict-write-reads.Post κs a r′ x′ → (r ≡ r′) × (x .1 .0 .now ≡ x′ .1 .0 .now)
-write-dict-integer-once κs a r r′ x x′ p p′ = (one-integer r r′ (answered (p ∙ sym p′)), ap (λ (o : Outcome). o .left) (p ∙ sym p′))
+write-dict-integer-once κs a r r′ x x′ p p′ = (one-integer r r′ (answered (p ∙ sym p′)), left-as (p ∙ sym p′))
 
 pub call-index-once : (κs : Lfts 0) (a : Dens κs index-kinds.ps) (r r′ : resT index-kinds.r κs .Denot)
     (x x′ : AtExit (endedOf 0 index-kinds.ps index-kinds.r) κs) → index-reads.Post κs a r x → index-reads.Post κs a r′ x′ → r ≡ r′
@@ -153,4 +157,4 @@ read-be-once κs a r r′ x x′ p p′ = p ∙ sym p′
 pub write-be-once : (κs : Lfts 1) (a : Dens κs write-be-kinds.ps) (r r′ : resT write-be-kinds.r κs .Denot)
     (x x′ : AtExit (endedOf 1 write-be-kinds.ps write-be-kinds.r) κs)
     → write-be-reads.Post κs a r x → write-be-reads.Post κs a r′ x′ → (r ≡ r′) × (x .0 .now ≡ x′ .0 .now)
-write-be-once κs a r r′ x x′ p p′ = (ap (λ (o : Put). o .answer) (p ∙ sym p′), ap (λ (o : Put). o .left) (p ∙ sym p′))
+write-be-once κs a r r′ x x′ p p′ = (answered (p ∙ sym p′), left-as (p ∙ sym p′))

@@ -1,13 +1,56 @@
--- What a public function answers, by document 01's numbers.
+-- What a public function answers, by the rules' numbers, and what it leaving in bytes that were lent.
 use Prim.Native.Nat.{ℕ}
-use mathlib.Core.List.{List}
+use mathlib.Core.Bool.{cond}
+use mathlib.Core.List.{List, _++_}
+use lib.Dec.{leb}
+use lib.ListN.{length, drop}
 
--- Accepted, which is document 01's number 0, with what is given back; or refused, with the number and the values that come with it.
+-- What comes with a refusal: nothing; the tokens run; the length that is needed; or that length and the tokens.
+pub data Values : Type 0 where
+  alone : Values
+  atToken : ℕ → Values
+  needing : ℕ → Values
+  needingAt : ℕ → ℕ → Values
+
+-- Accepted, which is number 0, with what is given back; or refused, with the number and the values that come with it.
 pub data Answer (A : Type 0) : Type 0 where
   accepted : A → Answer A
-  refused : ℕ → List ℕ → Answer A
+  refused : ℕ → Values → Answer A
 
--- What a writer answers, accepted with a length, and what it leaves in the bytes that were lent.
-pub record Outcome : Type 0 where
-  pub answer : Answer ℕ
+-- the number of an answer
+unfoldable pub numberIn : {A : Type 0} → Answer A → ℕ
+numberIn (accepted x) = 0
+numberIn (refused n v) = n
+
+-- what is accepted, seen another way
+abbrev pub mapped : {A B : Type 0} → (A → B) → Answer A → Answer B
+mapped f (accepted x) = accepted (f x)
+mapped f (refused n v) = refused n v
+
+-- ---- bytes that are lent
+
+-- An answer, and what is left in the bytes that were lent.
+pub record Outcome (A : Type 0) : Type 0 where
+  pub answer : A
   pub left : List ℕ
+
+abbrev pub leaving : {A : Type 0} → A → List ℕ → Outcome A
+leaving x l = record { answer = x; left = l }
+
+-- Bytes to be written, what is answered where the room takes them, and what comes with 13 where it does not.
+pub record Ready (A : Type 0) : Type 0 where
+  pub bytes : List ℕ
+  pub told : A
+  pub short : Values
+
+-- bytes of which the length alone is told
+abbrev pub sized : List ℕ → Ready ℕ
+sized b = record { bytes = b; told = length b; short = needing (length b) }
+
+-- accepted: the bytes, then the rest as lent; longer than the room: 13, and all as lent; refused before: all as lent
+unfoldable pub into : {A : Type 0} → List ℕ → Answer (Ready A) → Outcome (Answer A)
+into out (refused n v) = leaving (refused n v) out
+into out (accepted r) =
+    cond (leb (length (r .bytes)) (length out))
+    (leaving (accepted (r .told)) (r .bytes ++ drop (length (r .bytes)) out))
+    (leaving (refused 13 (r .short)) out)

@@ -4,6 +4,7 @@ use mathlib.Core.Bool.{Bool, true, false, cond, _&&_}
 use mathlib.Core.List.{List, [], _∷_, _++_}
 use lib.ListN.{length, getD, take, drop}
 use lib.Dec.{leb}
+use Rattle.number.specs.Answer.{Outcome, leaving}
 use Rattle.number.specs.declared.big_endian.Big.{Big}
 use Rattle.number.specs.declared.big_endian.Big.the-variants.{Value, Lacking}
 use Rattle.number.specs.declared.big_endian.Stored.{Stored}
@@ -32,12 +33,8 @@ holds s at k = leb k 4 && leb (at + k) (length s)
 unfoldable pub bigAt : List ℕ → ℕ → ℕ → Big
 bigAt s at k = cond (holds s at k) (Value (beAt s at k)) Lacking
 
-pub record Put : Type 0 where
-  pub answer : Stored
-  pub left : List ℕ
-
-unfoldable pub storedAt : List ℕ → ℕ → ℕ → ℕ → Put
+unfoldable pub storedAt : List ℕ → ℕ → ℕ → ℕ → Outcome Stored
 storedAt s at k v =
     cond (holds s at k)
-    (record { answer = Done; left = putAt s at k v })
-    (record { answer = NoRoom; left = s })
+    (leaving Done (putAt s at k v))
+    (leaving NoRoom s)

@@ -12,9 +12,11 @@ use lib.ListN.{length, getD, take, drop, set, take-append-drop, length-append}
 use lib.Pow.{pow-add, pow-mono}
 use lib.Seq.{set-split, drop-at, length-take-le, take-set-le, getD-append-add, getD-at}
 use borrow.Author.Tests.{le-leb, lt-leb, leb-true, leb-false}
-use Rattle.number.specs.BigEndian.{beAt, bytesOf, putAt, holds, bigAt, Put, storedAt}
+use Rattle.number.specs.Answer.{Outcome}
+use Rattle.number.specs.BigEndian.{beAt, bytesOf, putAt, holds, bigAt, storedAt}
 use Rattle.number.specs.declared.big_endian.Big.{Big}
 use Rattle.number.specs.declared.big_endian.Big.the-variants.{Value, Lacking}
+use Rattle.number.specs.declared.big_endian.Stored.{Stored}
 use Rattle.number.specs.declared.big_endian.Stored.the-variants.{Done, NoRoom}
 
 -- ---- reading
@@ -104,7 +106,7 @@ module _ (s : List ℕ) (at k : ℕ) where
   big-here h l = ap (λ (t : Bool). cond t (Value (beAt s at k)) Lacking) (sym (enough h l))
 
   module _ (v : ℕ) where
-    abbrev stored : Bool → Put
+    abbrev stored : Bool → Outcome Stored
     stored t = cond t (record { answer = Done; left = putAt s at k v }) (record { answer = NoRoom; left = s })
 
     pub stored-wide : 4 < k → record { answer = NoRoom; left = s } ≡ storedAt s at k v

@@ -4,7 +4,7 @@ use mathlib.Core.Bool.{Bool, true, false, cond, _||_}
 use mathlib.Core.List.{List, []}
 use lib.IntN.{ℤ, pos, negsuc, negℤ, natAbs, _+ℤ_}
 use lib.Dec.{leb, ltb, eqb}
-use Rattle.number.specs.Answer.{Answer, accepted, refused}
+use Rattle.number.specs.Answer.{Answer, accepted, refused, alone}
 use Rattle.number.specs.declared.Operand.{Operand}
 use Rattle.number.specs.declared.call.Whole.{Whole}
 use Rattle.number.specs.declared.call.Whole.the-variants.{Is, Not}
@@ -43,7 +43,7 @@ signedAs (negsuc n) q = negℤ (pos q)
 unfoldable pub callIndex : Bool → Operand → Answer ℤ
 callIndex exact o =
     cond (o .fixed)
-    (cond (counts exact (natAbs (o .value))) (accepted (signedAs (o .value) (nearest (natAbs (o .value))))) (refused 7 []))
+    (cond (counts exact (natAbs (o .value))) (accepted (signedAs (o .value) (nearest (natAbs (o .value))))) (refused 7 alone))
     (accepted (o .value))
 
 abbrev pub biasOf : ℕ → ℕ
@@ -51,8 +51,8 @@ biasOf count = cond (ltb count 1240) 107 (cond (ltb count 33900) 1131 32768)
 
 -- an entry of `count`, or 9
 unfoldable pub entryOf : ℕ → ℤ → Answer ℕ
-entryOf count (pos k) = cond (ltb k count) (accepted k) (refused 9 [])
-entryOf count (negsuc k) = refused 9 []
+entryOf count (pos k) = cond (ltb k count) (accepted k) (refused 9 alone)
+entryOf count (negsuc k) = refused 9 alone
 
 unfoldable pub biased : ℕ → Answer ℤ → Answer ℕ
 biased count (accepted z) = entryOf count (z +ℤ pos (biasOf count))
@@ -65,9 +65,9 @@ callee exact count o = biased count (callIndex exact o)
 -- what the enums say, by document 01's numbers
 abbrev pub wholeOf : Whole → Answer ℤ
 wholeOf (Is z) = accepted z
-wholeOf Not = refused 7 []
+wholeOf Not = refused 7 alone
 
 abbrev pub calleeOf : Callee → Answer ℕ
 calleeOf (Entry k) = accepted k
-calleeOf NotWhole = refused 7 []
-calleeOf Outside = refused 9 []
+calleeOf NotWhole = refused 7 alone
+calleeOf Outside = refused 9 alone

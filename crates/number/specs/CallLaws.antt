@@ -12,7 +12,7 @@ use lib.Count.{leadingZeros}
 use lib.Dec.{leb, ltb, eqb, leb·zero}
 use lib.Pow.{pow-add, shl-shr}
 use borrow.Author.Tests.{le-leb, lt-leb, lt-ltb, le-ltb, eq-eqb, ne-eqb, eqb-true}
-use Rattle.number.specs.Answer.{Answer, accepted, refused}
+use Rattle.number.specs.Answer.{Values, Answer, accepted, refused, alone}
 use Rattle.number.specs.Call.{bitLength, nearest, off, counts, signedAs, callIndex, biasOf, entryOf, biased, callee}
 use Rattle.number.specs.declared.Operand.{Operand}
 use Rattle.number.specs.declared.call.Part.{Part}
@@ -22,11 +22,11 @@ use Rattle.number.specs.declared.call.Part.the-variants.{Units, Broken}
 
 -- how many units of 65536 m counts as, or 7
 unfoldable pub units : Bool → ℕ → Answer ℕ
-units exact m = cond (counts exact m) (accepted (nearest m)) (refused 7 [])
+units exact m = cond (counts exact m) (accepted (nearest m)) (refused 7 alone)
 
 abbrev pub partOf : Part → Answer ℕ
 partOf (Units q) = accepted q
-partOf Broken = refused 7 []
+partOf Broken = refused 7 alone
 
 pub length-leading : (k m : ℕ) → bitLength k m + leadingZeros k m ≡ k
 unfolding bitLength leadingZeros
@@ -50,12 +50,12 @@ module _ (exact : Bool) (m : ℕ) where
   unfolding units counts
   at-once e = rw (e, exactly)
 
-  pub by-exact : exact ≡ true → (off m ≡ 0 → ⊥) → refused 7 [] ≡ units exact m
+  pub by-exact : exact ≡ true → (off m ≡ 0 → ⊥) → refused 7 alone ≡ units exact m
   unfolding units counts
   by-exact s n = rw (s, ne-eqb (off m) 0 n)
 
   module _ (s : exact ≡ false) (n : off m ≡ 0 → ⊥) where
-    pub by-length : 8 ≤ leadingZeros 32 m → refused 7 [] ≡ units exact m
+    pub by-length : 8 ≤ leadingZeros 32 m → refused 7 alone ≡ units exact m
     unfolding units counts
     by-length h =
         let w = length-leading 32 m in
@@ -72,15 +72,15 @@ module _ (exact : Bool) (m : ℕ) where
       unfolding units counts
       within q = rw (s, lt-leb (bitLength 32 m) 24 many, le-leb (2 * off m) (2 ^ (bitLength 32 m - 24)) (rw unit at q))
 
-      pub beyond : 256 / 2 ^ leadingZeros 32 m < 2 * off m → refused 7 [] ≡ units exact m
+      pub beyond : 256 / 2 ^ leadingZeros 32 m < 2 * off m → refused 7 alone ≡ units exact m
       unfolding units counts
       beyond q = rw (s, lt-leb (bitLength 32 m) 24 many, lt-leb (2 * off m) (2 ^ (bitLength 32 m - 24)) (rw unit at q))
 
-counted : (t : Bool) (x q : ℕ) → accepted q ≡ cond t (accepted x) (refused 7 []) → (t ≡ true) × (q ≡ x)
+counted : (t : Bool) (x q : ℕ) → accepted q ≡ cond t (accepted x) (refused 7 alone) → (t ≡ true) × (q ≡ x)
 counted true x q e = (refl, cc)
 counted false x q e = let z : _≡_ {A = ℕ} 0 1 = cc in absurd (omega arith)
 
-uncounted : (t : Bool) (x : ℕ) → refused 7 [] ≡ cond t (accepted x) (refused 7 []) → t ≡ false
+uncounted : (t : Bool) (x : ℕ) → refused 7 alone ≡ cond t (accepted x) (refused 7 alone) → t ≡ false
 uncounted true x e = let z : _≡_ {A = ℕ} 0 1 = cc in absurd (omega arith)
 uncounted false x e = refl
 
@@ -88,7 +88,7 @@ pub units-are : (exact : Bool) (m q : ℕ) → accepted q ≡ units exact m → 
 unfolding units
 units-are exact m q e = counted (counts exact m) (nearest m) q e
 
-pub no-units : (exact : Bool) (m : ℕ) → refused 7 [] ≡ units exact m → counts exact m ≡ false
+pub no-units : (exact : Bool) (m : ℕ) → refused 7 alone ≡ units exact m → counts exact m ≡ false
 unfolding units
 no-units exact m e = uncounted (counts exact m) (nearest m) e
 
@@ -100,11 +100,11 @@ module _ (exact : Bool) (o : Operand) where
   an-integer f z e = rw (f, e)
 
   module _ (f : o .fixed ≡ true) (n : ℕ) where
-    pub not-up : o .value ≡ pos n → refused 7 [] ≡ units exact n → refused 7 [] ≡ callIndex exact o
+    pub not-up : o .value ≡ pos n → refused 7 alone ≡ units exact n → refused 7 alone ≡ callIndex exact o
     unfolding callIndex
     not-up v e = rw (f, v, no-units exact n e)
 
-    pub not-down : o .value ≡ negsuc n → refused 7 [] ≡ units exact (n + 1) → refused 7 [] ≡ callIndex exact o
+    pub not-down : o .value ≡ negsuc n → refused 7 alone ≡ units exact (n + 1) → refused 7 alone ≡ callIndex exact o
     unfolding callIndex
     not-down v e = rw (f, v, ← add-one n, no-units exact (n + 1) e)
 
@@ -120,7 +120,7 @@ module _ (exact : Bool) (o : Operand) where
 -- ---- the entry
 
 module _ (exact : Bool) (count : ℕ) (o : Operand) where
-  pub not-whole : refused 7 [] ≡ callIndex exact o → refused 7 [] ≡ callee exact count o
+  pub not-whole : refused 7 alone ≡ callIndex exact o → refused 7 alone ≡ callee exact count o
   unfolding callee biased
   not-whole e = rw (← e)
 
@@ -134,12 +134,12 @@ module _ (exact : Bool) (count : ℕ) (o : Operand) where
       unfolding entryOf
       up-at h = rw (← to-entry, v, lt-ltb (n + by) count h)
 
-      pub up-past : count ≤ n + by → refused 9 [] ≡ callee exact count o
+      pub up-past : count ≤ n + by → refused 9 alone ≡ callee exact count o
       unfolding entryOf
       up-past h = rw (← to-entry, v, le-ltb (n + by) count h)
 
     module _ (n : ℕ) (v : z ≡ negsuc n) where
-      pub down-before : by ≤ n → refused 9 [] ≡ callee exact count o
+      pub down-before : by ≤ n → refused 9 alone ≡ callee exact count o
       unfolding entryOf
       down-before h = rw (← to-entry, v, lt-ltb by (suc n) (omega arith))
 
@@ -150,25 +150,25 @@ module _ (exact : Bool) (count : ℕ) (o : Operand) where
       unfolding entryOf
       down-at h k = rw (← to-entry, v, le-ltb by (suc n) h, same, lt-ltb (by - n - 1) count k)
 
-      pub down-past : n < by → count ≤ by - n - 1 → refused 9 [] ≡ callee exact count o
+      pub down-past : n < by → count ≤ by - n - 1 → refused 9 alone ≡ callee exact count o
       unfolding entryOf
       down-past h k = rw (← to-entry, v, le-ltb by (suc n) h, same, le-ltb (by - n - 1) count k)
 
 -- ---- a call is refused with 7 or with 9
 
-index-refusal : (t : Bool) (x y : ℤ) (n : ℕ) (v : List ℕ) (u : Bool) → cond u (cond t (accepted x) (refused 7 [])) (accepted y) ≡ refused n v → n ≡ 7
+index-refusal : (t : Bool) (x y : ℤ) (n : ℕ) (v : Values) (u : Bool) → cond u (cond t (accepted x) (refused 7 alone)) (accepted y) ≡ refused n v → n ≡ 7
 index-refusal true x y n v true e = let z : _≡_ {A = ℕ} 0 1 = cc in absurd (omega arith)
 index-refusal false x y n v true e = cc
 index-refusal t x y n v false e = let z : _≡_ {A = ℕ} 0 1 = cc in absurd (omega arith)
 
-pub callee-refusal : (exact : Bool) (count : ℕ) (o : Operand) (n : ℕ) (v : List ℕ) → callee exact count o ≡ refused n v → (n ≡ 7) ⊎ (n ≡ 9)
+pub callee-refusal : (exact : Bool) (count : ℕ) (o : Operand) (n : ℕ) (v : Values) → callee exact count o ≡ refused n v → (n ≡ 7) ⊎ (n ≡ 9)
 unfolding callee biased callIndex entryOf
 callee-refusal exact count o n v e = go (callIndex exact o) refl e
   where
     entry : (z : ℤ) → entryOf count z ≡ refused n v → n ≡ 9
     entry (pos k) q = below (ltb k count) q
       where
-        below : (t : Bool) → cond t (accepted k) (refused 9 []) ≡ refused n v → n ≡ 9
+        below : (t : Bool) → cond t (accepted k) (refused 9 alone) ≡ refused n v → n ≡ 9
         below true q = let z : _≡_ {A = ℕ} 0 1 = cc in absurd (omega arith)
         below false q = cc
     entry (negsuc k) q = cc
@@ -193,8 +193,8 @@ exact-index o z e = go (o .fixed) (counts true (natAbs (o .value))) refl e
     m : ℕ
     m = natAbs (o .value)
 
-    go : (f t : Bool) → counts true m ≡ t → cond f (cond t (accepted (signedAs (o .value) (nearest m))) (refused 7 [])) (accepted (o .value)) ≡ accepted z
-        → cond f (cond (counts false m) (accepted (signedAs (o .value) (nearest m))) (refused 7 [])) (accepted (o .value)) ≡ accepted z
+    go : (f t : Bool) → counts true m ≡ t → cond f (cond t (accepted (signedAs (o .value) (nearest m))) (refused 7 alone)) (accepted (o .value)) ≡ accepted z
+        → cond f (cond (counts false m) (accepted (signedAs (o .value) (nearest m))) (refused 7 alone)) (accepted (o .value)) ≡ accepted z
     go true true h e = rw (exact-counts m h) e
     go true false h e = let w : _≡_ {A = ℕ} 0 1 = cc in absurd (omega arith)
     go false t h e = e

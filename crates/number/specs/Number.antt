@@ -5,12 +5,12 @@ use mathlib.Core.List.{List, [], _∷_, _++_}
 use lib.IntN.{ℤ, pos, negsuc, negℤ, subℕ}
 use lib.ListN.{length, getD}
 use lib.Dec.{leb, ltb, eqb}
-use Rattle.number.specs.Answer.{Answer, accepted, refused}
+use Rattle.number.specs.Answer.{Answer, accepted, refused, alone}
 use Rattle.number.specs.BigEndian.{beAt}
 use Rattle.number.specs.Signed.{signed}
 use Rattle.number.specs.declared.Operand.{Operand}
 use Rattle.number.specs.declared.read.NumberRead.{NumberRead}
-use Rattle.number.specs.declared.read.NumberRead.the-variants.{Read, Missing, NoNumber}
+use Rattle.number.specs.declared.read.NumberRead.the-variants.{Read, Lacking, NoNumber}
 
 -- How a value goes by the first byte b and by the number v that the bytes after it are:
 pub data Value : Type 0 where
@@ -104,18 +104,18 @@ pub record Number : Type 0 where
 
 -- the number at the start of s, whose first byte has the row given
 unfoldable pub numberBy : Found → List ℕ → Answer Number
-numberBy noRow s = refused 6 []
+numberBy noRow s = refused 6 alone
 numberBy (row r) s =
     cond (ltb (r .after) (length s))
     (accepted (record { operand = operandBy r (getD s 0 0) (beAt s 1 (r .after)); width = r .after + 1 }))
-    (refused 4 [])
+    (refused 4 alone)
 
 -- the number at the start of s
 unfoldable pub readBy : List Row → List ℕ → Answer Number
-readBy rows s = cond (eqb (length s) 0) (refused 4 []) (numberBy (rowOf (getD s 0 0) rows) s)
+readBy rows s = cond (eqb (length s) 0) (refused 4 alone) (numberBy (rowOf (getD s 0 0) rows) s)
 
 -- what a `NumberRead` says, by document 01's numbers
 abbrev pub numberRead : NumberRead → Answer Number
 numberRead (Read o n) = accepted (record { operand = o; width = n })
-numberRead Missing = refused 4 []
-numberRead NoNumber = refused 6 []
+numberRead Lacking = refused 4 alone
+numberRead NoNumber = refused 6 alone

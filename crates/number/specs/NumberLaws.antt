@@ -9,7 +9,7 @@ use lib.IntN.{ℤ, pos, negℤ, subℕ}
 use lib.ListN.{length, getD}
 use lib.Dec.{leb, ltb, eqb, lit≤}
 use borrow.Author.Tests.{lt-ltb, le-ltb, le-leb, lt-leb, eq-eqb, ne-eqb, leb-true}
-use Rattle.number.specs.Answer.{Answer, accepted, refused}
+use Rattle.number.specs.Answer.{Answer, accepted, refused, alone}
 use Rattle.number.specs.BigEndian.{beAt}
 use Rattle.number.specs.BigEndianLaws.{and-false, both}
 use Rattle.number.specs.Signed.{signed}
@@ -297,12 +297,12 @@ by-row s (row r) k o e h v =
     rw (v, ← same, lt-ltb (r .after) (length s) (omega arith))
 by-row s noRow k o e h v = let w : _≡_ {A = ℕ} 0 1 = cc in absurd (omega arith)
 
-pub by-none : (s : List ℕ) (f : Found) → Nothing ≡ afterOf f → refused 6 [] ≡ numberBy f s
+pub by-none : (s : List ℕ) (f : Found) → Nothing ≡ afterOf f → refused 6 alone ≡ numberBy f s
 unfolding numberBy afterOf
 by-none s (row r) e = let w : _≡_ {A = ℕ} 0 1 = cc in absurd (omega arith)
 by-none s noRow e = refl
 
-pub by-short : (s : List ℕ) (f : Found) (k : ℕ) → Bytes k ≡ afterOf f → length s ≤ k → refused 4 [] ≡ numberBy f s
+pub by-short : (s : List ℕ) (f : Found) (k : ℕ) → Bytes k ≡ afterOf f → length s ≤ k → refused 4 alone ≡ numberBy f s
 unfolding numberBy afterOf
 by-short s (row r) k e h =
     let same : r .after ≡ k = cc in
@@ -315,7 +315,7 @@ width-is (row r) k e = cc
 width-is noRow k e = let w : _≡_ {A = ℕ} 0 1 = cc in absurd (omega arith)
 
 module _ (rows : List Row) (s : List ℕ) where
-  pub read-none : length s ≡ 0 → refused 4 [] ≡ readBy rows s
+  pub read-none : length s ≡ 0 → refused 4 alone ≡ readBy rows s
   unfolding readBy
   read-none e = rw (eq-eqb (length s) 0 e)
 

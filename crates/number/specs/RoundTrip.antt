@@ -13,7 +13,7 @@ use lib.IntN.{ℤ, pos, negsuc, negℤ, subℕ}
 use lib.ListN.{length, getD, length-append}
 use lib.Signed.{mag, leZ}
 use borrow.Author.Tests.{lt-ltb, le-ltb, le-leb, leb-true, ltb-true}
-use Rattle.number.specs.Answer.{Answer, accepted, refused}
+use Rattle.number.specs.Answer.{Answer, accepted, refused, alone}
 use Rattle.number.specs.BigEndian.{beAt, bytesOf}
 use Rattle.number.specs.BigEndianLaws.{be-lt, be-bytes, length-bytes, both}
 use Rattle.number.specs.Signed.{signed, unsigned}
@@ -212,7 +212,7 @@ pub record ByRow (rows : List Row) (s : List ℕ) (x : Number) : Type 0 where
 
 module _ (rows : List Row) (s : List ℕ) (x : Number) where
   by-room : (r : Row) (t : Bool) → ltb (r .after) (length s) ≡ t → rowOf (getD s 0 0) rows ≡ row r
-      → accepted x ≡ cond t (accepted (record { operand = operandBy r (getD s 0 0) (beAt s 1 (r .after)); width = r .after + 1 })) (refused 4 [])
+      → accepted x ≡ cond t (accepted (record { operand = operandBy r (getD s 0 0) (beAt s 1 (r .after)); width = r .after + 1 })) (refused 4 alone)
       → ByRow rows s x
   by-room r true h f e =
       let q : x ≡ record { operand = operandBy r (getD s 0 0) (beAt s 1 (r .after)); width = r .after + 1 } = cc in
@@ -224,7 +224,7 @@ module _ (rows : List Row) (s : List ℕ) (x : Number) where
   by-found (row r) h e = by-room r (ltb (r .after) (length s)) refl h e
   by-found noRow h e = let z : _≡_ {A = ℕ} 0 1 = cc in absurd (omega arith)
 
-  past-none : (t : Bool) (y : Answer Number) → accepted x ≡ cond t (refused 4 []) y → accepted x ≡ y
+  past-none : (t : Bool) (y : Answer Number) → accepted x ≡ cond t (refused 4 alone) y → accepted x ≡ y
   past-none true y e = let z : _≡_ {A = ℕ} 0 1 = cc in absurd (omega arith)
   past-none false y e = e
 

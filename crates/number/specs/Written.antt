@@ -4,18 +4,16 @@ use mathlib.Core.Bool.{Bool, true, false, cond, not, _&&_}
 use mathlib.Core.List.{List, [], _∷_, _++_}
 use lib.IntN.{ℤ, pos, negsuc, natAbs, _+ℤ_}
 use lib.Signed.{leZ}
-use lib.ListN.{length, drop}
-use lib.Dec.{leb}
-use Rattle.number.specs.Answer.{Answer, accepted, refused, Outcome}
+use Rattle.number.specs.Answer.{Answer, accepted, refused, alone, needing, mapped, Outcome, sized, into}
 use Rattle.number.specs.BigEndian.{bytesOf}
 use Rattle.number.specs.Signed.{unsigned}
 use Rattle.number.specs.Number.{Value, near, above, below, twos, Row}
 use Rattle.number.specs.declared.Operand.{Operand}
 use Rattle.number.specs.declared.write.Form.{Form}
 use Rattle.number.specs.declared.write.NumberWritten.{NumberWritten}
-use Rattle.number.specs.declared.write.NumberWritten.the-variants.{Bytes, Short, Outside}
+use Rattle.number.specs.declared.write.NumberWritten.the-variants.{Bytes, NoRoom, Outside}
 use Rattle.number.specs.declared.write.IntegerWritten.{IntegerWritten}
-use Rattle.number.specs.declared.write.IntegerWritten.the-variants.{Bytes as Stored, Short as NoRoom}
+use Rattle.number.specs.declared.write.IntegerWritten.the-variants.{Bytes as Stored, NoRoom as Full}
 
 abbrev pub integer : ℤ → Operand
 integer z = record { fixed = false; value = z }
@@ -45,7 +43,7 @@ formBy twos r z = form (r .first) (r .after) (unsigned (2 ^ (8 * r .after - 1)) 
 
 -- the form that a table gives an operand, or 17
 unfoldable pub spell : List Row → Operand → Answer Form
-spell [] o = refused 17 []
+spell [] o = refused 17 alone
 spell (r ∷ rs) o = cond (has r o) (accepted (formBy (r .value) r (o .value))) (spell rs o)
 
 unfoldable pub bytes : Form → List ℕ
@@ -59,24 +57,16 @@ bytesBy (refused n v) = []
 unfoldable pub spelling : List Row → Operand → List ℕ
 spelling rows o = bytesBy (spell rows o)
 
--- refused: nothing changes; else the number's bytes come first and the rest stays, or 13 with the length that is needed
-unfoldable pub place : Answer Form → List ℕ → Outcome
-place (refused n v) out = record { answer = refused n v; left = out }
-place (accepted f) out =
-    cond (leb (length (bytes f)) (length out))
-    (record { answer = accepted (length (bytes f)); left = bytes f ++ drop (length (bytes f)) out })
-    (record { answer = refused 13 (length (bytes f) ∷ []); left = out })
-
 -- what writing an operand answers and leaves
-unfoldable pub write : List Row → Operand → List ℕ → Outcome
-write rows o out = place (spell rows o) out
+unfoldable pub write : List Row → Operand → List ℕ → Outcome (Answer ℕ)
+write rows o out = into out (mapped (λ (f : Form). sized (bytes f)) (spell rows o))
 
 -- what the writers' enums say, by document 01's numbers
 abbrev pub numberWritten : NumberWritten → Answer ℕ
 numberWritten (Bytes n) = accepted n
-numberWritten (Short n) = refused 13 (n ∷ [])
-numberWritten Outside = refused 17 []
+numberWritten (NoRoom n) = refused 13 (needing n)
+numberWritten Outside = refused 17 alone
 
 abbrev pub integerWritten : IntegerWritten → Answer ℕ
 integerWritten (Stored n) = accepted n
-integerWritten (NoRoom n) = refused 13 (n ∷ [])
+integerWritten (Full n) = refused 13 (needing n)

@@ -10,13 +10,13 @@ use lib.Signed.{mag, leZ}
 use lib.ListN.{length, getD, take, drop, set}
 use lib.Dec.{leb, ltb, lit≤}
 use borrow.Author.Tests.{lt-ltb, le-ltb, le-leb, lt-leb, ltb-true, ltb-false}
-use Rattle.number.specs.Answer.{Answer, accepted, refused, Outcome}
+use Rattle.number.specs.Answer.{Answer, accepted, refused, Outcome, alone, needing, mapped, sized, into}
 use Rattle.number.specs.BigEndian.{bytesOf, putAt}
 use Rattle.number.specs.BigEndianLaws.{length-bytes, and-false}
 use Rattle.number.specs.Signed.{unsigned}
 use Rattle.number.specs.Number.{Value, near, above, below, twos, Row, row32, row247, row251, row28, row29, row255, integerRows, lastRow, rowsOf}
 use Rattle.number.specs.NumberLaws.{Every, fours}
-use Rattle.number.specs.Written.{integer, has, form, formBy, spell, bytes, place, write}
+use Rattle.number.specs.Written.{integer, has, form, formBy, spell, bytes, write}
 use Rattle.number.specs.declared.Operand.{Operand}
 use Rattle.number.specs.declared.write.Form.{Form}
 use Rattle.number.specs.declared.write.Coded.{Coded}
@@ -26,7 +26,7 @@ use Rattle.number.specs.declared.write.Coded.the-variants.{Is, Outside}
 
 abbrev pub coded : Coded → Answer Form
 coded (Is f) = accepted f
-coded Outside = refused 17 []
+coded Outside = refused 17 alone
 
 -- whether a form was stored, and what is left in the room
 pub record Kept : Type 0 where
@@ -50,7 +50,7 @@ module _ (r : Row) (rs : List Row) (o : Operand) where
   unfolding spell
   spell-past e = ap (λ (t : Bool). cond t (accepted (formBy (r .value) r (o .value))) (spell rs o)) (sym e)
 
-pub spell-none : (o : Operand) → refused 17 [] ≡ spell [] o
+pub spell-none : (o : Operand) → refused 17 alone ≡ spell [] o
 unfolding spell
 spell-none o = refl
 
@@ -81,7 +81,7 @@ module _ (n : ℕ) where
       ∙ spell-past row247 _ up (past247 h)
       ∙ spell-past row32 _ up (past32 (omega arith))
 
-  pub up-none : 32768 ≤ n → refused 17 [] ≡ spell integerRows up
+  pub up-none : 32768 ≤ n → refused 17 alone ≡ spell integerRows up
   unfolding integerRows
   up-none h =
       spell-none up
@@ -127,7 +127,7 @@ module _ (n : ℕ) where
       ∙ spell-past row247 _ down refl
       ∙ spell-past row32 _ down (low32 (omega arith))
 
-  pub down-none : 32768 ≤ n → refused 17 [] ≡ spell integerRows down
+  pub down-none : 32768 ≤ n → refused 17 alone ≡ spell integerRows down
   unfolding integerRows
   down-none h =
       spell-none down
@@ -142,7 +142,7 @@ cond-form : (t : Bool) (g f : Form) (x y : Answer Form) → accepted f ≡ cond 
 cond-form true g f x y e k = e
 cond-form false g f x y e k = k e
 
-cond-refused : (t : Bool) (g : Form) (x y z : Answer Form) → refused 17 [] ≡ cond t (accepted g) x → (refused 17 [] ≡ x → z ≡ y) → z ≡ cond t (accepted g) y
+cond-refused : (t : Bool) (g : Form) (x y z : Answer Form) → refused 17 alone ≡ cond t (accepted g) x → (refused 17 alone ≡ x → z ≡ y) → z ≡ cond t (accepted g) y
 cond-refused true g x y z e k = let w : _≡_ {A = ℕ} 0 1 = cc in absurd (omega arith)
 cond-refused false g x y z e k = k e
 
@@ -152,7 +152,7 @@ module _ (o : Operand) where
   spell-left [] ts f e = let w : _≡_ {A = ℕ} 0 1 = cc in absurd (omega arith)
   spell-left (r ∷ rs) ts f e = cond-form (has r o) _ f (spell rs o) _ e (spell-left rs ts f)
 
-  spell-right : (rs ts : List Row) → refused 17 [] ≡ spell rs o → spell ts o ≡ spell (rs ++ ts) o
+  spell-right : (rs ts : List Row) → refused 17 alone ≡ spell rs o → spell ts o ≡ spell (rs ++ ts) o
   unfolding spell
   spell-right [] ts e = refl
   spell-right (r ∷ rs) ts e = cond-refused (has r o) _ (spell rs o) _ (spell ts o) e (spell-right rs ts)
@@ -161,7 +161,7 @@ module _ (o : Operand) where
   unfolding rowsOf
   table-left dict f e = spell-left integerRows _ f e
 
-  table-right : (dict : Bool) → refused 17 [] ≡ spell integerRows o → spell (lastRow dict ∷ []) o ≡ spell (rowsOf dict) o
+  table-right : (dict : Bool) → refused 17 alone ≡ spell integerRows o → spell (lastRow dict ∷ []) o ≡ spell (rowsOf dict) o
   unfolding rowsOf
   table-right dict e = spell-right integerRows _ e
 
@@ -171,7 +171,7 @@ wide (pos n) h = rw (le-leb n 2147483647 (omega arith))
 wide (negsuc n) h = rw (le-leb n 2147483647 (omega arith))
 
 -- an integer of 32 bits that 16 do not hold, in a DICT
-pub dict-five : (z : ℤ) (v : ℕ) → mag z < 2 ^ 31 → v ≡ unsigned (2 ^ 31) z → refused 17 [] ≡ spell integerRows (integer z)
+pub dict-five : (z : ℤ) (v : ℕ) → mag z < 2 ^ 31 → v ≡ unsigned (2 ^ 31) z → refused 17 alone ≡ spell integerRows (integer z)
     → accepted (form 29 4 v) ≡ spell (rowsOf true) (integer z)
 unfolding formBy
 dict-five z v h b e =
@@ -184,11 +184,11 @@ module _ (o : Operand) where
   pub charstring-integer : (x : Coded) → o .fixed ≡ false → coded x ≡ spell integerRows (integer (o .value)) → coded x ≡ spell (rowsOf false) o
   charstring-integer (Is f) t e = table-left o false f (subst (λ (b : Bool). accepted f ≡ spell integerRows (record { fixed = b; value = o .value })) (sym t) e)
   charstring-integer Outside t e =
-      let e′ : refused 17 [] ≡ spell integerRows o = subst (λ (b : Bool). refused 17 [] ≡ spell integerRows (record { fixed = b; value = o .value })) (sym t) e in
+      let e′ : refused 17 alone ≡ spell integerRows o = subst (λ (b : Bool). refused 17 alone ≡ spell integerRows (record { fixed = b; value = o .value })) (sym t) e in
       spell-none o ∙ spell-past row255 [] o (rw t) ∙ table-right o false e′
 
   -- no row of the integers has a Fixed
-  fixed-none : o .fixed ≡ true → refused 17 [] ≡ spell integerRows o
+  fixed-none : o .fixed ≡ true → refused 17 alone ≡ spell integerRows o
   unfolding integerRows
   fixed-none t = spell-none o ∙ spell-past row28 _ o (rw t) ∙ spell-past row251 _ o (rw t) ∙ spell-past row247 _ o (rw t) ∙ spell-past row32 _ o (rw t)
 
@@ -242,26 +242,26 @@ unfolding bytes
 length-form f = ap suc (length-bytes (f .after) (f .rest)) ∙ sym (add-one (f .after))
 
 module _ (rows : List Row) (o : Operand) (out : List ℕ) where
-  pub write-refused : refused 17 [] ≡ spell rows o → record { answer = refused 17 []; left = out } ≡ write rows o out
-  unfolding write place
+  pub write-refused : refused 17 alone ≡ spell rows o → record { answer = refused 17 alone; left = out } ≡ write rows o out
+  unfolding write into
   write-refused e = rw (← e)
 
   module _ (f : Form) (e : accepted f ≡ spell rows o) where
-    placed : place (accepted f) out ≡ write rows o out
+    placed : into out (accepted (sized (bytes f))) ≡ write rows o out
     unfolding write
-    placed = ap (λ (x : Answer Form). place x out) e
+    placed = ap (λ (x : Answer Form). into out (mapped (λ (g : Form). sized (bytes g)) x)) e
 
     fits : (t : Bool) → ltb (f .after) (length out) ≡ t → leb (length (bytes f)) (length out) ≡ t
     fits true h = let l = length-form f in le-leb (length (bytes f)) (length out) (omega (arith, ltb-true (f .after) (length out) h))
     fits false h = let l = length-form f in lt-leb (length (bytes f)) (length out) (omega (arith, ltb-false (f .after) (length out) h))
 
   module _ (f : Form) (l : List ℕ) (t : Bool) (e : accepted f ≡ spell rows o) where
-    abbrev told : Outcome
-    told = record { answer = cond t (accepted (f .after + 1)) (refused 13 ((f .after + 1) ∷ [])); left = l }
+    abbrev told : Outcome (Answer ℕ)
+    told = record { answer = cond t (accepted (f .after + 1)) (refused 13 (needing (f .after + 1))); left = l }
 
     by-room : (b : Bool) → ltb (f .after) (length out) ≡ b → kept t l ≡ cond b (kept true (bytes f ++ drop (f .after + 1) out)) (kept false out)
         → told ≡ write rows o out
-    unfolding place
+    unfolding into
     by-room true h k =
         let t-is : t ≡ true = ap (λ (x : Kept). x .done) k in
         let l-is : l ≡ bytes f ++ drop (f .after + 1) out = ap (λ (x : Kept). x .left) k in
@@ -279,7 +279,7 @@ module _ (rows : List Row) (o : Operand) (out : List ℕ) where
     pub write-stored : kept t l ≡ storeForm f out → t ≡ true → record { answer = accepted (f .after + 1); left = l } ≡ write rows o out
     write-stored k h = rw h at (write-kept k)
 
-    pub write-short : kept t l ≡ storeForm f out → t ≡ false → record { answer = refused 13 ((f .after + 1) ∷ []); left = l } ≡ write rows o out
+    pub write-short : kept t l ≡ storeForm f out → t ≡ false → record { answer = refused 13 (needing (f .after + 1)); left = l } ≡ write rows o out
     write-short k h = rw h at (write-kept k)
 
 -- ---- storing

@@ -14,7 +14,7 @@ pub enum NumberRead {
     // The operand, and how many bytes it is.
     Read(Operand, usize),
     // Bytes are lacking.
-    Missing,
+    Lacking,
     // The first byte starts no number.
     NoNumber,
 }
@@ -37,7 +37,7 @@ fn read_number(s: &[u8], dict: bool) -> NumberRead
     ensures { λ r. ⌜ numberRead r ≡ readBy (rowsOf dict) (now (s .entry)) ⌝ }
 {
     if s.len() == 0 {
-        return NumberRead::Missing;
+        return NumberRead::Lacking;
     }
     let b = s[0];
     // most numbers are of one byte
@@ -48,7 +48,7 @@ fn read_number(s: &[u8], dict: bool) -> NumberRead
         return NumberRead::NoNumber;
     };
     if s.len() <= k {
-        return NumberRead::Missing;
+        return NumberRead::Lacking;
     }
     let v = be(s, 1, k);
     NumberRead::Read(operand_of(b, v, dict), k + 1)

@@ -16,7 +16,7 @@ pub enum NumberWritten {
     // So many bytes were written.
     Bytes(usize),
     // So many bytes are needed, and nothing is changed.
-    Short(usize),
+    NoRoom(usize),
     // An integer outside 16 bits: nothing is changed.
     Outside,
 }
@@ -24,7 +24,7 @@ pub enum NumberWritten {
 // What writing a DICT integer did.
 pub enum IntegerWritten {
     Bytes(usize),
-    Short(usize),
+    NoRoom(usize),
 }
 
 // Writes o at the start of out.
@@ -38,7 +38,7 @@ pub fn write_charstring_number(o: Operand, out: &mut [u8]) -> NumberWritten
     if store(form, out) {
         return NumberWritten::Bytes(length);
     }
-    NumberWritten::Short(length)
+    NumberWritten::NoRoom(length)
 }
 
 // Writes the integer z at the start of out.
@@ -50,7 +50,7 @@ pub fn write_dict_integer(z: i32, out: &mut [u8]) -> IntegerWritten
     if store(form, out) {
         return IntegerWritten::Bytes(length);
     }
-    IntegerWritten::Short(length)
+    IntegerWritten::NoRoom(length)
 }
 
 // A written number: its first byte, and how many bytes of which number follow it.

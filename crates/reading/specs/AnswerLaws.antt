@@ -7,7 +7,7 @@ use native.Mathlib.Omega.{arith}
 use lib.Dec.{leb}
 use lib.ListN.{length, drop}
 use borrow.Author.Tests.{leb-true}
-use Rattle.number.specs.Answer.{Answer, accepted, refused}
+use Rattle.number.specs.Answer.{Values, Answer, accepted, refused, atToken, needingAt}
 use Rattle.index.specs.Formed.{Formation, yes, unread, emptied, bad, formation}
 use Rattle.reading.specs.Rules.{Rules, plain, strict}
 use Rattle.reading.specs.Lists.{listsOf}
@@ -17,7 +17,7 @@ use Rattle.reading.specs.BudgetLaws.{Accepted, count, budget-enough, bud
 use Rattle.reading.specs.TighterLaws.{Tighter, strict-tighter, tighter-reading}
 
 -- ---- an accepted flattening
-refused-not : {A : Type 0} (k : ℕ) (v : List ℕ) (out : List ℕ) (y : Outcome) (x : Flattening) → y ≡ record { answer = refused k v; left = out } → y .answer ≡ accepted x → A
+refused-not : {A : Type 0} (k : ℕ) (v : Values) (out : List ℕ) (y : Outcome) (x : Flattening) → y ≡ record { answer = refused k v; left = out } → y .answer ≡ accepted x → A
 refused-not k v out y x p q = let z : refused k v ≡ accepted x = sym (ap (λ (o : Outcome). o .answer) p) ∙ q in let w : _≡_ {A = ℕ} 0 1 = cc in absurd (omega arith)
 
 -- past a list that is well formed, whatever comes then
@@ -44,7 +44,7 @@ pub record Took (out : List ℕ) (r : Run) (x : Flattening) (left : List ℕ) : 
 
 module _ (out : List ℕ) (r : Run) (x : Flattening) where
   fitted-took : (t : Bool) → leb (length (flatOf r)) (length out) ≡ t → Accepted (r .how)
-      → cond t (accepted (record { size = length (flatOf r); tokens = tokens r })) (refused 13 (length (flatOf r) ∷ tokens r ∷ [])) ≡ accepted x
+      → cond t (accepted (record { size = length (flatOf r); tokens = tokens r })) (refused 13 (needingAt (length (flatOf r)) (tokens r))) ≡ accepted x
       → Took out r x (flatOf r ++ drop (length (flatOf r)) out)
   fitted-took true h a e =
       let same : record { size = length (flatOf r); tokens = tokens r } ≡ x = cc in
@@ -78,11 +78,11 @@ accepted-tokens ended n a = refl
 accepted-tokens (stopped k) n a = absurd a
 
 -- a run that the budget stopped
-spent-outcome : (out : List ℕ) (r : Run) (b : ℕ) → r .how ≡ stopped 3 → count (r .state) ≡ b → outcome out r ≡ record { answer = refused 3 (b ∷ []); left = out }
+spent-outcome : (out : List ℕ) (r : Run) (b : ℕ) → r .how ≡ stopped 3 → count (r .state) ≡ b → outcome out r ≡ record { answer = refused 3 (atToken b); left = out }
 unfolding outcome placed verdictBy tokensBy
 spent-outcome out r b h k =
     ap (λ (e : Ending). record { answer = verdictBy (length out) r e; left = placed (flatOf r) out (verdictBy (length out) r e) }) h
-    ∙ ap (λ (n : ℕ). record { answer = refused 3 (n ∷ []); left = out }) (ap (tokensBy (count (r .state))) h ∙ k)
+    ∙ ap (λ (n : ℕ). record { answer = refused 3 (atToken n); left = out }) (ap (tokensBy (count (r .state))) h ∙ k)
 
 module _ (rules : Rules) (cs globals locals : List ℕ) where
   abbrev runOf : ℕ → Run
@@ -123,7 +123,7 @@ module _ (rules : Rules) (cs globals locals : List ℕ) where
         alike rules b ∙ ap (outcome out) same ∙ sym run-decides
 
     -- a smaller one gives refusal 3 with the budget as its count
-    pub answer-short : (b : ℕ) → b < x .tokens → flattening rules cs globals locals b out ≡ record { answer = refused 3 (b ∷ []); left = out }
+    pub answer-short : (b : ℕ) → b < x .tokens → flattening rules cs globals locals b out ≡ record { answer = refused 3 (atToken b); left = out }
     answer-short b h =
         let t = flattening-took in
         let less = budget-short rules (listsOf 2 globals locals) budget b cs (t .accepted-run) (subst (λ (n : ℕ). b < n) count-is h) in

@@ -4,7 +4,7 @@ use mathlib.Core.Bool.{Bool, true, false, cond}
 use mathlib.Core.List.{List, [], _∷_, _++_}
 use lib.ListN.{length, drop}
 use lib.Dec.{leb}
-use Rattle.number.specs.Answer.{Answer, accepted, refused}
+use Rattle.number.specs.Answer.{Answer, accepted, refused, alone, atToken, needingAt}
 use Rattle.index.specs.Formed.{Formation, yes, unread, emptied, bad, formation}
 use Rattle.reading.specs.Rules.{Rules}
 use Rattle.reading.specs.Lists.{listsOf}
@@ -13,7 +13,7 @@ use Rattle.reading.specs.Flat.{flat}
 use Rattle.reading.specs.declared.Refusal.{Refusal}
 use Rattle.reading.specs.declared.Refusal.the-variants.{BudgetSpent, BytesLacking, TooManyOperands, UnknownOperator, NoIndex, IndexNotLast, NoEntry, TooDeep, TooManyHints, Composite}
 use Rattle.reading.specs.declared.Flattened.{Flattened}
-use Rattle.reading.specs.declared.Flattened.the-variants.{Accepted, BadGlobals, BadLocals, Refused, Short}
+use Rattle.reading.specs.declared.Flattened.the-variants.{Accepted, BadGlobals, BadLocals, Refused, NoRoom}
 
 pub record Flattening : Type 0 where
   pub size : ℕ
@@ -28,12 +28,12 @@ flatOf r = flat (struck (r .state .shown))
 abbrev pub fitted : ℕ → Run → Answer Flattening
 fitted room r =
     let n = length (flatOf r) in
-    cond (leb n room) (accepted (record { size = n; tokens = tokens r })) (refused 13 (n ∷ tokens r ∷ []))
+    cond (leb n room) (accepted (record { size = n; tokens = tokens r })) (refused 13 (needingAt n (tokens r)))
 
 unfoldable pub verdictBy : ℕ → Run → Ending → Answer Flattening
 verdictBy room r back = fitted room r
 verdictBy room r ended = fitted room r
-verdictBy room r (stopped k) = refused k (tokens r ∷ [])
+verdictBy room r (stopped k) = refused k (atToken (tokens r))
 
 abbrev pub verdict : ℕ → Run → Answer Flattening
 verdict room r = verdictBy room r (r .how)
@@ -55,9 +55,9 @@ outcome out r = record { answer = verdict (length out) r; left = placed (flatOf 
 -- refused with k unless the list is well formed
 unfoldable pub listGate : ℕ → List ℕ → Formation → Outcome → Outcome
 listGate k out (yes n) then = then
-listGate k out (unread n) then = record { answer = refused k []; left = out }
-listGate k out emptied then = record { answer = refused k []; left = out }
-listGate k out (bad i) then = record { answer = refused k []; left = out }
+listGate k out (unread n) then = record { answer = refused k alone; left = out }
+listGate k out emptied then = record { answer = refused k alone; left = out }
+listGate k out (bad i) then = record { answer = refused k alone; left = out }
 
 unfoldable pub flattening : Rules → List ℕ → List ℕ → List ℕ → ℕ → List ℕ → Outcome
 flattening rules cs globals locals budget out =
@@ -81,7 +81,7 @@ numberOf Composite = 12
 
 abbrev pub flattened : Flattened → Answer Flattening
 flattened (Accepted n t) = accepted (record { size = n; tokens = t })
-flattened BadGlobals = refused 1 []
-flattened BadLocals = refused 2 []
-flattened (Refused k t) = refused (numberOf k) (t ∷ [])
-flattened (Short n t) = refused 13 (n ∷ t ∷ [])
+flattened BadGlobals = refused 1 alone
+flattened BadLocals = refused 2 alone
+flattened (Refused k t) = refused (numberOf k) (atToken t)
+flattened (NoRoom n t) = refused 13 (needingAt n t)

@@ -8,7 +8,7 @@ use lib.Dec.{eqb, ltb, lit<}
 use lib.ListN.{length, getD, drop, length-drop}
 use lib.Seq.{getD-drop}
 use borrow.Author.Tests.{eq-eqb, ne-eqb, eqb-true, eqb-false}
-use Rattle.number.specs.Answer.{Answer, accepted, refused}
+use Rattle.number.specs.Answer.{Values, Answer, accepted, refused, alone}
 use Rattle.number.specs.Number.{Number, charstringRows, Found, row, noRow, rowOf, numberBy, readBy}
 use Rattle.number.specs.NumberLaws.{read-some}
 use Rattle.number.specs.RoundTrip.{read-width, read-inside, Width, one, two, three, five, Spellable, read-spellable}
@@ -33,21 +33,21 @@ Cuttable p = (rest : List ℕ) → cut (operatorBytes p ++ rest) ≡ token (oper
 
 -- a byte that starts no number does so whatever follows
 module _ (b : ℕ) where
-  alone : (f : Found) (s t : List ℕ) (v : List ℕ) → numberBy f s ≡ refused 6 v → numberBy f t ≡ refused 6 []
+  lone : (f : Found) (s t : List ℕ) (v : Values) → numberBy f s ≡ refused 6 v → numberBy f t ≡ refused 6 alone
   unfolding numberBy
-  alone noRow s t v e = refl
-  alone (row r) s t v e = absurd (never (ltb (r .after) (length s)) _ e)
+  lone noRow s t v e = refl
+  lone (row r) s t v e = absurd (never (ltb (r .after) (length s)) _ e)
     where
-      never : (x : Bool) (y : Number) → cond x (accepted y) (refused 4 []) ≡ refused 6 v → ⊥
+      never : (x : Bool) (y : Number) → cond x (accepted y) (refused 4 alone) ≡ refused 6 v → ⊥
       never true y p = let z : _≡_ {A = ℕ} 0 1 = cc in omega arith
       never false y p = let z : _≡_ {A = ℕ} 4 6 = cc in omega arith
 
-  no-number : (s t : List ℕ) (v : List ℕ) → readBy charstringRows (b ∷ s) ≡ refused 6 v → readBy charstringRows (b ∷ t) ≡ refused 6 []
+  no-number : (s t : List ℕ) (v : Values) → readBy charstringRows (b ∷ s) ≡ refused 6 v → readBy charstringRows (b ∷ t) ≡ refused 6 alone
   no-number s t v e =
       sym (read-some charstringRows (b ∷ t) (λ z. omega arith))
-      ∙ alone (rowOf b charstringRows) (b ∷ s) (b ∷ t) v (read-some charstringRows (b ∷ s) (λ z. omega arith) ∙ e)
+      ∙ lone (rowOf b charstringRows) (b ∷ s) (b ∷ t) v (read-some charstringRows (b ∷ s) (λ z. omega arith) ∙ e)
 
-  as-operator : (s t : List ℕ) (v : List ℕ) → readBy charstringRows (b ∷ s) ≡ refused 6 v → cut (b ∷ t) ≡ operatorAt (b ∷ t)
+  as-operator : (s t : List ℕ) (v : Values) → readBy charstringRows (b ∷ s) ≡ refused 6 v → cut (b ∷ t) ≡ operatorAt (b ∷ t)
   unfolding cut cutBy
   as-operator s t v e = rw (no-number s t v e)
 
@@ -92,14 +92,14 @@ module _ (t : Token) (rest : List ℕ) where
     by-number x e =
         record { behind = bytes-drop (x .width) bytes h; sound = read-spellable false bytes h x e }
 
-  by-escape : (s : List ℕ) (v : List ℕ) → Bytes s → readBy charstringRows (12 ∷ s) ≡ refused 6 v → escapedAt s ≡ token t rest → CutOff (12 ∷ s) t rest
+  by-escape : (s : List ℕ) (v : Values) → Bytes s → readBy charstringRows (12 ∷ s) ≡ refused 6 v → escapedAt s ≡ token t rest → CutOff (12 ∷ s) t rest
   unfolding escapedAt
   by-escape [] v h e q = no-token q
   by-escape (b ∷ s) v h e q =
       moved (12 ∷ b ∷ s) (operator (record { escaped = true; byte = b })) s q
       (record { behind = bytes-tail b s h; sound = λ more. as-operator 12 (b ∷ s) (b ∷ more) v e ∙ escaped b more })
 
-  by-byte : (b : ℕ) (s : List ℕ) (v : List ℕ) → Bytes s → readBy charstringRows (b ∷ s) ≡ refused 6 v → (x : Bool) → eqb b 12 ≡ x
+  by-byte : (b : ℕ) (s : List ℕ) (v : Values) → Bytes s → readBy charstringRows (b ∷ s) ≡ refused 6 v → (x : Bool) → eqb b 12 ≡ x
       → cond x (escapedAt s) (token (operator (record { escaped = false; byte = b })) s) ≡ token t rest → CutOff (b ∷ s) t rest
   by-byte b s v h e true k q =
       let twelve : b ≡ 12 = eqb-true b 12 k in
@@ -108,7 +108,7 @@ module _ (t : Token) (rest : List ℕ) where
       moved (b ∷ s) (operator (record { escaped = false; byte = b })) s q
       (record { behind = h; sound = λ more. as-operator b s more v e ∙ unescaped b k more })
 
-  by-refusal : (bytes : List ℕ) (n : ℕ) (v : List ℕ) → Bytes bytes → readBy charstringRows bytes ≡ refused n v → (x : Bool) → eqb n 6 ≡ x
+  by-refusal : (bytes : List ℕ) (n : ℕ) (v : Values) → Bytes bytes → readBy charstringRows bytes ≡ refused n v → (x : Bool) → eqb n 6 ≡ x
       → cond x (operatorAt bytes) lacking ≡ token t rest → CutOff bytes t rest
   unfolding operatorAt
   by-refusal [] n v h e true k q = no-token q

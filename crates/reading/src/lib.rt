@@ -80,5 +80,5 @@ pub enum Flattened {
     // The run was refused at this token.
     Refused(Refusal, u32),
     // The flat string has this length, which is more than the room; and the tokens.
-    Short(usize, u32),
+    NoRoom(usize, u32),
 }

@@ -1,6 +1,6 @@
 use Rattle.charstring.specs.Words.{operandIn, shortOf}
 use Rattle.number.proofs.read.NumberRead as number-type
-use Rattle.number.specs.declared.read.NumberRead.the-variants.{Read, Missing, NoNumber}
+use Rattle.number.specs.declared.read.NumberRead.the-variants.{Read, Lacking, NoNumber}
 use Rattle.number.specs.declared.read.NumberRead.{NumberRead}
 use Rattle.number.specs.Number.{Number, numberRead}
 use Rattle.number.specs.Answer.{Answer}
@@ -20,7 +20,7 @@ none-there : (x : Answer Number) (r : NumberRead) → OneOf (1 ∷ 2 ∷ []) (ta
     → _≡_ {A = Operand} (record { fixed = false; value = pos 0 }) (operandIn x)
 unfolding operandIn
 none-there x (Read o n) k e = absurd (miss (1 ∷ 2 ∷ []) 0 tt k)
-none-there x Missing k e = ap operandIn e
+none-there x Lacking k e = ap operandIn e
 none-there x NoNumber k e = ap operandIn e
 
 slice-aggregate-read-charstring-number : tie.Need-slice-aggregate-read-charstring-number

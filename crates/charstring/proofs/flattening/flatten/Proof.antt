@@ -5,7 +5,7 @@ use Rattle.index.proofs.list.Formed as formed-type
 use Rattle.index.specs.declared.list.Formed.the-variants.{Yes, Lacking, BadSize, Emptied, Bad}
 use Rattle.index.specs.declared.list.Formed.{Formed}
 use Rattle.index.specs.Formed.{Formation, formed}
-use Rattle.number.specs.Answer.{refused}
+use Rattle.number.specs.Answer.{refused, alone}
 use denote.Enum.Declared.{tagOf}
 use types.Run.{OneOf, miss}
 use Prim.Native.Nat.{ℕ}
@@ -17,7 +17,7 @@ use Rattle.charstring.proofs.flattening.flatten.Tie as tie
 
 -- a list that is not well formed, by each of its reasons
 shut : (k : ℕ) (out : List ℕ) (f : Formation) (then : Outcome) (r : Formed) → OneOf (1 ∷ 2 ∷ 3 ∷ 4 ∷ []) (tagOf formed-type.the-type r) → formed r ≡ f
-    → told (refused k []) out ≡ listGate k out f then
+    → told (refused k alone) out ≡ listGate k out f then
 unfolding listGate
 shut k out f then (Yes n) h e = absurd (miss (1 ∷ 2 ∷ 3 ∷ 4 ∷ []) 0 tt h)
 shut k out f then Lacking h e = ap (λ (g : Formation). listGate k out g then) e

@@ -4,7 +4,7 @@ use Prim.Native.Nat.{ℕ}
 use native.Mathlib.Omega.{arith}
 use types.Run.{OneOf, miss}
 use denote.Enum.Declared.{tagOf}
-use Rattle.number.specs.Answer.{Answer, refused}
+use Rattle.number.specs.Answer.{Answer, refused, alone}
 use Rattle.index.specs.Index.{Place, entryRead, place}
 use Rattle.index.specs.IndexLaws.{lies, inside}
 use Rattle.index.specs.declared.entry.EntryRead.{EntryRead}
@@ -17,7 +17,7 @@ use Rattle.charstring.proofs.subroutines.enter.Statement.{statement}
 use Rattle.charstring.proofs.subroutines.enter.Tie as tie
 
 -- what is no entry, by each of its reasons
-none-read : (levels tail : ℕ) (x : Answer Place) (r : EntryRead) → OneOf (1 ∷ 2 ∷ 3 ∷ []) (tagOf entry-type.the-type r) → entryRead r ≡ x → refused 9 [] ≡ enterBy levels tail x
+none-read : (levels tail : ℕ) (x : Answer Place) (r : EntryRead) → OneOf (1 ∷ 2 ∷ 3 ∷ []) (tagOf entry-type.the-type r) → entryRead r ≡ x → refused 9 alone ≡ enterBy levels tail x
 none-read levels tail x (Entry a n) k e = absurd (miss (1 ∷ 2 ∷ 3 ∷ []) 0 tt k)
 none-read levels tail x Lacking k e = no-entry levels tail _ _ x e
 none-read levels tail x BadSize k e = no-entry levels tail _ _ x e

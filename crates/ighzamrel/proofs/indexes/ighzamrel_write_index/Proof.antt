@@ -1,7 +1,7 @@
 -- `ighzamrel_write_index` tells what `write_index` answers, and leaves what it leaves. Assumes nothing.
 use Rattle.ighzamrel.specs.Told.{tellWritten, lengthFrom}
 use Rattle.ighzamrel.specs.ToldLaws.{tell-length}
-use Rattle.writing.specs.Writing.{indexWritten}
+use Rattle.index_writing.specs.Writing.{indexWritten}
 use borrow.Author.Needs.{needs}
 use Rattle.ighzamrel.proofs.indexes.ighzamrel_write_index.Statement.{statement}
 use Rattle.ighzamrel.proofs.indexes.ighzamrel_write_index.Tie as tie
