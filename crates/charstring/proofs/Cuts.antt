@@ -23,7 +23,7 @@ use Rattle.charstring.specs.Words.{operandIn, shortOf}
 use Rattle.charstring.specs.Run.{Spelt, clears as Clearing, Looked}
 use Rattle.charstring.specs.declared.look.Request.the-variants.{Plain, Short}
 use Rattle.charstring.proofs.Operators.{clears-alone, plain-is}
-use Rattle.reading.specs.Rules.{plainKind}
+use Rattle.reading.specs.Rules.{byteKind}
 use Rattle.reading.specs.declared.Operator.{Operator}
 use Rattle.reading.specs.declared.Kind.the-variants.{Clear}
 use Rattle.reading.specs.Tokens.{number, operator, token, lacking, escapedAt, operatorAt, cutBy, cut}
@@ -175,7 +175,7 @@ module _ (cs : List ℕ) (i : ℕ) (h : i + 1 < length cs) (low : 31 < getD cs i
 
 -- ---- an operator of one byte that clears the stack
 
-module _ (cs : List ℕ) (i : ℕ) (h : i < length cs) (c : Clear ≡ plainKind (getD cs i 0)) (small : getD cs i 0 < 32) where
+module _ (cs : List ℕ) (i : ℕ) (h : i < length cs) (c : Clear ≡ byteKind (getD cs i 0)) (small : getD cs i 0 < 32) where
   abbrev operator-here : Operator
   operator-here = record { escaped = false; byte = getD cs i 0 }
 

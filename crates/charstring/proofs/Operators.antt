@@ -5,7 +5,7 @@ use mathlib.Core.Bool.{true, false}
 use Prim.Native.Nat.{ℕ, zero, suc, _+_, _-_, _<_, _≤_}
 use native.Mathlib.Omega.{arith}
 use borrow.Author.Tests.{ne-eqb}
-use Rattle.reading.specs.Rules.{among, clearing, type2, plainKind, escapedKind}
+use Rattle.reading.specs.Rules.{among, clearing, type2, byteKind, escapedKind}
 use Rattle.reading.specs.declared.Operator.{Operator}
 use Rattle.reading.specs.declared.Kind.{Kind}
 use Rattle.reading.specs.declared.Kind.the-variants.{Clear, Unknown}
@@ -20,22 +20,22 @@ apart b [] n = refl
 apart b (k ∷ ks) n = rw (ne-eqb b k (n .0), apart b ks (n .1))
 
 -- what `clears` answers, at a key and elsewhere
-pub at-key : (b k : ℕ) → b ≡ k → Clear ≡ plainKind k → (true ≡ true → Clear ≡ plainKind b) × (true ≡ false → among b clearing ≡ false)
-at-key b k e c = (λ t. c ∙ ap plainKind (sym e), λ t. let z : _≡_ {A = ℕ} 0 1 = cc in absurd (omega arith))
+pub at-key : (b k : ℕ) → b ≡ k → Clear ≡ byteKind k → (true ≡ true → Clear ≡ byteKind b) × (true ≡ false → among b clearing ≡ false)
+at-key b k e c = (λ t. c ∙ ap byteKind (sym e), λ t. let z : _≡_ {A = ℕ} 0 1 = cc in absurd (omega arith))
 
-pub at-no-key : (b : ℕ) → Apart b clearing → (false ≡ true → Clear ≡ plainKind b) × (false ≡ false → among b clearing ≡ false)
+pub at-no-key : (b : ℕ) → Apart b clearing → (false ≡ true → Clear ≡ byteKind b) × (false ≡ false → among b clearing ≡ false)
 at-no-key b n = (λ t. let z : _≡_ {A = ℕ} 0 1 = cc in absurd (omega arith), λ t. apart b clearing n)
 
 -- a byte that is none of the operators
-pub unknown : (b : ℕ) → among b clearing ≡ false → Apart b (1 ∷ 3 ∷ 18 ∷ 23 ∷ []) → Apart b (19 ∷ 20 ∷ []) → Apart b (10 ∷ 29 ∷ 11 ∷ 14 ∷ []) → Unknown ≡ plainKind b
-unfolding plainKind
+pub unknown : (b : ℕ) → among b clearing ≡ false → Apart b (1 ∷ 3 ∷ 18 ∷ 23 ∷ []) → Apart b (19 ∷ 20 ∷ []) → Apart b (10 ∷ 29 ∷ 11 ∷ 14 ∷ []) → Unknown ≡ byteKind b
+unfolding byteKind
 unknown b c s m n =
     rw (apart b (1 ∷ 3 ∷ 18 ∷ 23 ∷ []) s, c, apart b (19 ∷ 20 ∷ []) m, ne-eqb b 10 (n .0), ne-eqb b 29 (n .1 .0), ne-eqb b 11 (n .1 .1 .0), ne-eqb b 14 (n .1 .1 .1 .0)) refl
 
 -- an operator that clears the stack is neither the escape byte nor a number's first
-pub clears-alone : (b : ℕ) → Clear ≡ plainKind b → (b ≡ 12 → ⊥) × (b ≡ 28 → ⊥)
-unfolding plainKind
-clears-alone b c = (λ e. other 12 (c ∙ ap plainKind e), λ e. other 28 (c ∙ ap plainKind e))
+pub clears-alone : (b : ℕ) → Clear ≡ byteKind b → (b ≡ 12 → ⊥) × (b ≡ 28 → ⊥)
+unfolding byteKind
+clears-alone b c = (λ e. other 12 (c ∙ ap byteKind e), λ e. other 28 (c ∙ ap byteKind e))
   where
     other : (k : ℕ) → Clear ≡ Unknown → ⊥
     other k q = let z : _≡_ {A = ℕ} 0 1 = cc in absurd (omega arith)
@@ -65,6 +65,6 @@ module _ (p : Operator) where
   unfolding type2
   escaped-is e = rw e
 
-  pub plain-is : p .escaped ≡ false → plainKind (p .byte) ≡ type2 p
+  pub plain-is : p .escaped ≡ false → byteKind (p .byte) ≡ type2 p
   unfolding type2
   plain-is e = rw e

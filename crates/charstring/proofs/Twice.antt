@@ -10,7 +10,7 @@ use contract.Lifetimes.{Lfts}
 use denote.Triple.Clauses.{AtExit}
 use Rattle.number.specs.Answer.{accepted}
 use Rattle.reading.specs.Rules.{rulesOf}
-use Rattle.reading.specs.CutLaws.{Bytes}
+use Rattle.reading.specs.Tokens.{Bytes}
 use Rattle.reading.specs.Answers.{Outcome, flattened, flattening}
 use Rattle.reading.specs.SameGlyph.{SameGlyph, empty, demand-three}
 use Rattle.reading.specs.declared.Flattened.the-variants.{Accepted}

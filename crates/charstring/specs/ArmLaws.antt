@@ -13,7 +13,7 @@ use Rattle.number.specs.declared.Operand.{Operand}
 use Rattle.index.specs.Index.{extent}
 use Rattle.reading.specs.Rules.{Rules}
 use Rattle.reading.specs.Lists.{Lists, listed, countIn, subrsOf, listsOf}
-use Rattle.reading.specs.CutLaws.{Bytes}
+use Rattle.reading.specs.Tokens.{Bytes}
 use Rattle.reading.specs.Reading.{State as Now, read}
 use Rattle.reading.specs.Flat.{operatorBytes}
 use Rattle.reading.specs.SizeLaws.{longestItem}

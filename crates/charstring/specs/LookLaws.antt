@@ -11,7 +11,7 @@ use Rattle.reading.specs.Rules.{Rules, type2}
 use Rattle.reading.specs.Lists.{Lists, Subrs, listed}
 use Rattle.reading.specs.Tokens.{number, operator, token, lacking, cut}
 use Rattle.reading.specs.Items.{Left, counted, atMask}
-use Rattle.reading.specs.Reading.{State as Now, refuse, onNumber, onStem, onMask, onEnd, onCall, onOperator, onCut, step}
+use Rattle.reading.specs.Reading.{State as Now, refuse, onNumber, onStem, onMask, onEnd, onCall, onOperator, onCut, onToken}
 use Rattle.reading.specs.declared.Operator.{Operator}
 use Rattle.reading.specs.declared.Which.{Which}
 use Rattle.reading.specs.declared.Kind.{Kind}
@@ -112,13 +112,13 @@ module _ (cs : List ℕ) (i budget operands limit tokens count hints mask : ℕ)
   Stops k = Refuses cs i budget operands limit tokens count hints mask k
 
   pub spends : i < length cs → budget ≤ tokens → Stops 3
-  unfolding step
+  unfolding onToken
   spends l h = record { some = l; refusal = λ rules lists levels at exact t r c. rw (le-ltb (length (t .shown)) budget (let q = c .tokens-are in omega arith)) }
 
   module _ (l : i < length cs) (h : tokens < budget) where
     begins : (rules : Rules) (lists : Lists) (levels at : ℕ) (t : Now) → Counts t tokens count hints mask
-        → step rules lists levels at budget (drop i cs) t ≡ onCut rules lists levels at t (cut (drop i cs))
-    unfolding step
+        → onToken rules lists budget levels at (drop i cs) t ≡ onCut rules lists levels at t (cut (drop i cs))
+    unfolding onToken
     begins rules lists levels at t c = rw (lt-ltb (length (t .shown)) budget (let q = c .tokens-are in omega arith))
 
     pub lacks : lacking ≡ cut (drop i cs) → Stops 4

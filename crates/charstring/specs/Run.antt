@@ -11,8 +11,8 @@ use Rattle.number.specs.declared.Operand.{Operand}
 use Rattle.index.specs.Index.{extent}
 use Rattle.reading.specs.Lists.{Lists, countIn, listsOf}
 use Rattle.reading.specs.Tokens.{number, operator, token, cut}
-use Rattle.reading.specs.Items.{Item, operand, plainly, masked}
-use Rattle.reading.specs.Reading.{struck, Ending as How, back, ended, stopped, Run, State as Now, refuse, onOperator, step, read}
+use Rattle.reading.specs.Items.{Item, operand, bare, masked}
+use Rattle.reading.specs.Reading.{struck, Ending as How, back, ended, stopped, Run, State as Now, refuse, onOperator, onToken, read}
 use Rattle.reading.specs.Flat.{flat}
 use Rattle.reading.specs.ValidLaws.{Good}
 use Rattle.reading.specs.Answers.{numberOf}
@@ -96,7 +96,7 @@ module _ (cs : List ℕ) (i budget operands limit tokens count hints mask : ℕ)
   pub record Refuses (k : ℕ) : Type 0 where
     pub some : i < length cs
     pub refusal : (rules : Rules) (lists : Lists) (levels at : ℕ) (exact : Bool) (t : Now) → Ruled rules operands limit exact → Counts t tokens count hints mask
-        → step rules lists levels at budget (drop i cs) t ≡ refuse k t
+        → onToken rules lists budget levels at (drop i cs) t ≡ refuse k t
 
   -- the operand o, which may be pushed
   abbrev pub Pushes : ℕ → Operand → Type 0
@@ -119,7 +119,7 @@ module _ (cs : List ℕ) (i budget operands limit tokens count hints mask : ℕ)
 unfoldable pub tailOf : List Item → ℕ
 tailOf [] = 0
 tailOf (operand o ∷ f) = suc (tailOf f)
-tailOf (plainly p ∷ f) = 0
+tailOf (bare p ∷ f) = 0
 tailOf (masked p m ∷ f) = 0
 
 pub record Repr (rules : Rules) (stack out : List ℕ) (s : State) (t : Now) : Type 0 where

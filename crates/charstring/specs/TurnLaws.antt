@@ -18,13 +18,13 @@ use Rattle.number.specs.Answer.{Answer, accepted, refused, alone}
 use Rattle.number.specs.Call.{callee}
 use Rattle.index.specs.Index.{Place, extent, place, bytesBy, part}
 use Rattle.reading.specs.Lists.{Lists, Subrs, listed, countIn, entryBy, subrsOf}
-use Rattle.reading.specs.Tokens.{number, token, cut}
-use Rattle.reading.specs.CutLaws.{Bytes, bytes-drop}
-use Rattle.reading.specs.Items.{Item, operand, plainly, masked, Left, pushed, popped, cleared, counted, atMask, leaves, leftBy}
-use Rattle.reading.specs.Reading.{Entering, item, call, return, struck, Ending as How, back, ended, stopped, Run, State as Now, Step, halt, go, enter, refuse, shows, endsInOperand, onEntry, onIndex, onCall, onOperator, onCut, step, resume, after, tokensOf, read}
+use Rattle.reading.specs.Tokens.{number, token, cut, Bytes}
+use Rattle.reading.specs.CutLaws.{bytes-drop}
+use Rattle.reading.specs.Items.{Item, operand, bare, masked, Left, pushed, popped, cleared, counted, atMask, leaves, leftBy}
+use Rattle.reading.specs.Reading.{Entering, item, call, return, struck, Ending as How, back, ended, stopped, Run, State as Now, Step, halt, go, enter, refuse, shows, endsInOperand, onEntry, onIndex, onCall, onOperator, onCut, onToken, resume, after, tokensOf, read, closed}
 use Rattle.reading.specs.Flat.{operatorBytes, spelled, flat}
-use Rattle.reading.specs.StepLaws.{Goes, pushes, stems, clears, masks, enters, returns, ends, step-goes}
-use Rattle.reading.specs.RunLaws.{closed, Led}
+use Rattle.reading.specs.StepLaws.{Goes, pushes, stems, clears, masks, enters, returns, ends, token-goes}
+use Rattle.reading.specs.RunLaws.{Led}
 use Rattle.reading.specs.ValidLaws.{Good, Ends, Plain, good-goes, index-is-last}
 use Rattle.reading.specs.StraightLaws.{run-step}
 use Rattle.reading.specs.SizeLaws.{longestItem, valid-most, struck-fewer}
@@ -68,7 +68,7 @@ tail-waits : (rules : Rules) (f : List Item) → tailOf f ≤ length (leftBy rul
 unfolding tailOf leftBy leaves
 tail-waits rules [] = zero-le
 tail-waits rules (operand o ∷ f) = let k = tail-waits rules f in omega arith
-tail-waits rules (plainly p ∷ f) = zero-le
+tail-waits rules (bare p ∷ f) = zero-le
 tail-waits rules (masked p m ∷ f) = zero-le
 
 module _ (rules : Rules) (stack out : List ℕ) (s : State) (t : Now) where
@@ -113,7 +113,7 @@ module _ (rules : Rules) (lists : Lists) (cs : List ℕ) (budget levels : ℕ) (
     place-of = length cs - length (drop i cs)
 
     abbrev stepped : Step
-    stepped = step rules lists levels place-of budget (drop i cs) (h .now)
+    stepped = onToken rules lists budget levels place-of (drop i cs) (h .now)
 
     abbrev below : List ℕ → Now → Run
     below = belowOf rules lists budget levels
@@ -214,7 +214,7 @@ ends-tail : (f : List Item) → endsInOperand f ≡ ltb 0 (tailOf f)
 unfolding endsInOperand tailOf
 ends-tail [] = refl
 ends-tail (operand o ∷ f) = sym (lt-ltb 0 (suc (tailOf f)) (omega arith))
-ends-tail (plainly p ∷ f) = refl
+ends-tail (bare p ∷ f) = refl
 ends-tail (masked p m ∷ f) = refl
 
 -- where an entry is refused by 9, 10 or 8, so is the step
@@ -309,8 +309,8 @@ module _ (rules : Rules) (lists : Lists) (plain : Plain lists) (cs : List ℕ) (
   within : s .tokens < budget → length (h .now .shown) < budget
   within l = subst (λ (n : ℕ). n < budget) (sym (h .repr .tokens-are)) l
 
-  taken : s .tokens < budget → (x : Step) → Goes rules lists levels at (drop i cs) (h .now) x → step rules lists levels at budget (drop i cs) (h .now) ≡ x
-  taken l x g = step-goes rules lists levels at budget (drop i cs) (h .now) (within l) x g
+  taken : s .tokens < budget → (x : Step) → Goes rules lists levels at (drop i cs) (h .now) x → onToken rules lists budget levels at (drop i cs) (h .now) ≡ x
+  taken l x g = token-goes rules lists budget levels at (drop i cs) (h .now) (within l) x g
 
   bytes-here : Bytes (drop i cs)
   bytes-here = bytes-drop i cs bytes
@@ -346,13 +346,13 @@ module _ (rules : Rules) (lists : Lists) (plain : Plain lists) (cs : List ℕ) (
 
     -- one that clears the stack
     plain-turn : (j h₁ : ℕ) (x : Left) (out₁ : List ℕ) → AtOperator cs i j (s .tokens) budget p
-        → Goes rules lists levels at (drop i cs) (h .now) (go (drop j cs) (shows (plainly p) x (h .now)))
+        → Goes rules lists levels at (drop i cs) (h .now) (go (drop j cs) (shows (bare p) x (h .now)))
         → out₁ ≡ sets out (s .length) (operatorBytes p) → x .operands ≡ [] → x .hints ≡ h₁ → h₁ ≤ rules .hints → x .mask ≡ s .mask
         → Turn stack out₁ (plainState h₁) j
     unfolding spelled tailOf stackOf
     plain-turn j h₁ x out₁ a g d ops hints hinted mask =
         goes-on rules lists cs budget levels t₀ stack out s i h j _ _ _ _ (a .begun .ahead) (a .begun .inside) (taken (a .begun .within) _ g)
-        (emitted rules stack out s (h .now) (h .repr) (plainly p) x stack out₁ (plainState h₁) (led _ g .1)
+        (emitted rules stack out s (h .now) (h .repr) (bare p) x stack out₁ (plainState h₁) (led _ g .1)
         (stored-written rules stack out s (h .now) (h .repr) (operatorBytes p) out₁ d) zero-le ops hints hinted mask refl refl refl)
 
     pub by-plain : (j h₁ : ℕ) (out₁ : List ℕ) (s₁ : State) → AtOperator cs i j (s .tokens) budget p → Hinted hints (s .count) (s .hints) p h₁
@@ -452,7 +452,7 @@ module _ (rules : Rules) (lists : Lists) (plain : Plain lists) (cs : List ℕ) (
       let e = runs-out rules lists cs budget levels t₀ stack out s i h l in
       stays Back whole (sym (ap (λ (x : Run). x .how) e)) (ap (λ (x : Run). x .state) e)
 
-  stops : (k : Refusal) → i < length cs → step rules lists levels at budget (drop i cs) (h .now) ≡ refuse (numberOf k) (h .now) → Ends-with (record { how = Refused k; st = s }) stack out
+  stops : (k : Refusal) → i < length cs → onToken rules lists budget levels at (drop i cs) (h .now) ≡ refuse (numberOf k) (h .now) → Ends-with (record { how = Refused k; st = s }) stack out
   stops k l q =
       let e = halts rules lists cs budget levels t₀ stack out s i h l (stopped (numberOf k)) (h .now) q in
       stays (Refused k) whole (sym (ap (λ (x : Run). x .how) e)) (ap (λ (x : Run). x .state) e)
@@ -503,7 +503,7 @@ module _ (rules : Rules) (lists : Lists) (plain : Plain lists) (cs : List ℕ) (
       let e = halts rules lists cs budget levels t₀ stack out s i h (omega (arith, b .ahead, b .inside)) _ _ (taken (b .within) _ g) in
       let r = h .repr in
       let f = flat (struck (h .now .shown)) in
-      let same : whole .state ≡ shows (plainly p) (h .now .left) (h .now) = ap (λ (x : Run). x .state) e in
+      let same : whole .state ≡ shows (bare p) (h .now .left) (h .now) = ap (λ (x : Run). x .state) e in
       record {
         how = sym (ap (λ (x : Run). x .how) e);
         tokens-are = ap (λ (y : Now). length (y .shown)) same ∙ (let q = r .tokens-are in let z : suc (length (h .now .shown)) ≡ s₁ .tokens = omega arith in z);
@@ -537,12 +537,12 @@ module _ (rules : Rules) (lists : Lists) (plain : Plain lists) (cs : List ℕ) (
       unfolding subrsOf
       entry-is n = ap (λ (l : Subrs). l .entry n) its
 
-      -- the step, once the operand and what it names are known
-      call-step : step rules lists levels at budget (drop i cs) (h .now)
+      -- the onToken, once the operand and what it names are known
+      call-step : onToken rules lists budget levels at (drop i cs) (h .now)
           ≡ onIndex levels (drop j cs) (h .now) which (listed lists which) at top (callee exact count top)
-      unfolding step onCut onOperator onCall
+      unfolding onToken onCut onOperator onCall
       call-step =
-          let first-step : step rules lists levels at budget (drop i cs) (h .now) ≡ onCall levels (drop j cs) (h .now) which (listed lists which) at (rules .exact) (h .now .left .operands)
+          let first-step : onToken rules lists budget levels at (drop i cs) (h .now) ≡ onCall levels (drop j cs) (h .now) which (listed lists which) at (rules .exact) (h .now .left .operands)
           = rw (lt-ltb (length (h .now .shown)) budget (within (a .begun .within)), a .cut-is, ruled .kinds p ∙ k) in
           first-step
           ∙ ap (onCall levels (drop j cs) (h .now) which (listed lists which) at (rules .exact)) ops-are

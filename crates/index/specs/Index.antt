@@ -8,10 +8,16 @@ use lib.ListN.{length, getD, take, drop}
 use lib.Dec.{leb, ltb, eqb}
 use Rattle.number.specs.Answer.{Answer, accepted, refused, alone}
 use Rattle.number.specs.BigEndian.{beAt}
+use Rattle.index.specs.declared.read.Width.{Width}
+use Rattle.index.specs.declared.read.Width.the-variants.{Two, Four}
 use Rattle.index.specs.declared.read.IndexRead.{IndexRead}
 use Rattle.index.specs.declared.read.IndexRead.the-variants.{Read, Lacking, BadSize}
 use Rattle.index.specs.declared.entry.EntryRead.{EntryRead}
 use Rattle.index.specs.declared.entry.EntryRead.the-variants.{Entry, Lacking as NoBytes, BadSize as NoSize, Absent}
+
+abbrev pub widthOf : Width → ℕ
+widthOf Two = 2
+widthOf Four = 4
 
 -- ---- where things stand
 

@@ -12,4 +12,5 @@ pub use crate::entry::read_entry;
 pub use crate::list::Formed;
 pub use crate::list::well_formed;
 pub use crate::read::IndexRead;
+pub use crate::read::Width;
 pub use crate::read::read_index;

@@ -5,6 +5,12 @@ use crate::offset::offset_at;
 ghost use mathlib.Core.Path.{_≡_};
 ghost use Rattle.index.specs.Index.{extent, indexRead};
 
+// How many bytes the count of an INDEX has: two in CFF.
+pub enum Width {
+    Two,
+    Four,
+}
+
 // What reading an INDEX finds.
 pub enum IndexRead {
     // How many entries it has, and how many bytes it takes.

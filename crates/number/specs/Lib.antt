@@ -1,4 +1,5 @@
 pub mod Answer
+pub mod AnswerLaws
 pub mod BigEndian
 pub mod BigEndianLaws
 pub mod Signed

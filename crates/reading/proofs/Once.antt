@@ -1,11 +1,50 @@
--- The contract of `number_of` fixes its result: any two that it allows for the same argument are one. Stated over the contract's own reading. Assumes nothing.
-use mathlib.Core.Path.{_≡_, sym, _∙_}
+-- Each public function's contract fixes its result: any two that it allows for the same argument are one. Stated over the contracts' own
+-- readings. Assumes nothing.
+use mathlib.Core.Path.{_≡_, refl, sym, ap, _∙_}
+use mathlib.Core.Bool.{cond}
+use lib.Dec.{eqb}
 use borrow.Fn.Kinds.{Dens, resT, endedOf}
 use contract.Lifetimes.{Lfts}
 use denote.Triple.Clauses.{AtExit}
-use Rattle.reading.proofs.number_of.Kinds as kinds
-use Rattle.reading.proofs.number_of.Reads as reads
+use Rattle.index.specs.declared.read.Width.{Width}
+use Rattle.index.specs.declared.read.Width.the-variants.{Two, Four}
+use Rattle.index.specs.Index.{widthOf}
+use Rattle.reading.specs.Rules.{Rules, meant}
+use Rattle.reading.specs.declared.Rules.{Rules as CodeRules}
+use Rattle.reading.proofs.number_of.Kinds as number-kinds
+use Rattle.reading.proofs.number_of.Reads as number-reads
+use Rattle.reading.proofs.Flattened.number.Kinds as answer-kinds
+use Rattle.reading.proofs.Flattened.number.Reads as answer-reads
+use Rattle.reading.proofs.rules_of.Kinds as rules-kinds
+use Rattle.reading.proofs.rules_of.Reads as rules-reads
 
-pub number-of-once : (κs : Lfts 0) (a : Dens κs kinds.ps) (r r′ : resT kinds.r κs .Denot) (x x′ : AtExit (endedOf 0 kinds.ps kinds.r) κs)
-    → reads.Post κs a r x → reads.Post κs a r′ x′ → r ≡ r′
+pub number-of-once : (κs : Lfts 0) (a : Dens κs number-kinds.ps) (r r′ : resT number-kinds.r κs .Denot)
+    (x x′ : AtExit (endedOf 0 number-kinds.ps number-kinds.r) κs) → number-reads.Post κs a r x → number-reads.Post κs a r′ x′ → r ≡ r′
 number-of-once κs a r r′ x x′ p p′ = p ∙ sym p′
+
+pub answer-number-once : (κs : Lfts 0) (a : Dens κs answer-kinds.ps) (r r′ : resT answer-kinds.r κs .Denot)
+    (x x′ : AtExit (endedOf 0 answer-kinds.ps answer-kinds.r) κs) → answer-reads.Post κs a r x → answer-reads.Post κs a r′ x′ → r ≡ r′
+answer-number-once κs a r r′ x x′ p p′ = p ∙ sym p′
+
+-- ---- from the rules back to the record that stands for them
+
+width-back : Width → Width
+width-back w = cond (eqb (widthOf w) 2) Two Four
+
+width-undo : (w : Width) → width-back w ≡ w
+unfolding width-back
+width-undo Two = refl
+width-undo Four = refl
+
+rules-back : Rules → CodeRules
+rules-back r =
+    record { operands = r .operands; levels = r .levels; hints = r .hints; exact = r .exact; width = cond (eqb (r .width) 2) Two Four }
+
+rules-undo : (r : CodeRules) → rules-back (meant r) ≡ r
+unfolding rules-back width-back
+rules-undo r =
+    ap (λ (w : Width). record { operands = r .operands; levels = r .levels; hints = r .hints; exact = r .exact; width = w }) (width-undo (r .width))
+
+pub rules-of-once : (κs : Lfts 0) (a : Dens κs rules-kinds.ps) (r r′ : resT rules-kinds.r κs .Denot)
+    (x x′ : AtExit (endedOf 0 rules-kinds.ps rules-kinds.r) κs) → rules-reads.Post κs a r x → rules-reads.Post κs a r′ x′ → r ≡ r′
+rules-of-once κs a r r′ x x′ p p′ = sym (rules-undo r) ∙ ap rules-back (p ∙ sym p′) ∙ rules-undo r′

@@ -1,14 +1,11 @@
 -- What flattening answers and leaves, by document 01's numbers ("What comes back").
 use Prim.Native.Nat.{ℕ}
-use mathlib.Core.Bool.{Bool, true, false, cond}
-use mathlib.Core.List.{List, [], _∷_, _++_}
-use lib.ListN.{length, drop}
-use lib.Dec.{leb}
-use Rattle.number.specs.Answer.{Answer, accepted, refused, alone, atToken, needingAt}
+use mathlib.Core.List.{List}
+use lib.ListN.{length}
+use Rattle.number.specs.Answer.{Answer, accepted, refused, alone, atToken, needingAt, mapped, Outcome, leaving, Ready, into}
 use Rattle.index.specs.Formed.{Formation, yes, unread, emptied, bad, formation}
 use Rattle.reading.specs.Rules.{Rules}
-use Rattle.reading.specs.Lists.{listsOf}
-use Rattle.reading.specs.Reading.{Ending, back, ended, stopped, Run, State, struck, tokens, reading}
+use Rattle.reading.specs.Reading.{Ending, back, ended, stopped, Run, State, struck, tokens, original}
 use Rattle.reading.specs.Flat.{flat}
 use Rattle.reading.specs.declared.Refusal.{Refusal}
 use Rattle.reading.specs.declared.Refusal.the-variants.{BudgetSpent, BytesLacking, TooManyOperands, UnknownOperator, NoIndex, IndexNotLast, NoEntry, TooDeep, TooManyHints, Composite}
@@ -24,46 +21,40 @@ pub record Flattening : Type 0 where
 abbrev pub flatOf : Run → List ℕ
 flatOf r = flat (struck (r .state .shown))
 
--- 13 where the flat string is longer than the room
-abbrev pub fitted : ℕ → Run → Answer Flattening
-fitted room r =
+-- the flat string, its length and the tokens
+abbrev pub flatReady : Run → Ready Flattening
+flatReady r =
     let n = length (flatOf r) in
-    cond (leb n room) (accepted (record { size = n; tokens = tokens r })) (refused 13 (needingAt n (tokens r)))
+    record { bytes = flatOf r; told = record { size = n; tokens = tokens r }; short = needingAt n (tokens r) }
 
-unfoldable pub verdictBy : ℕ → Run → Ending → Answer Flattening
-verdictBy room r back = fitted room r
-verdictBy room r ended = fitted room r
-verdictBy room r (stopped k) = refused k (atToken (tokens r))
+-- by how a run ended
+unfoldable pub readyBy : Run → Ending → Answer (Ready Flattening)
+readyBy r back = accepted (flatReady r)
+readyBy r ended = accepted (flatReady r)
+readyBy r (stopped k) = refused k (atToken (tokens r))
 
-abbrev pub verdict : ℕ → Run → Answer Flattening
-verdict room r = verdictBy room r (r .how)
+-- the verdict on a run, whatever the room
+unfoldable pub verdict : Run → Answer Flattening
+verdict r = mapped (λ (x : Ready Flattening). x .told) (readyBy r (r .how))
 
-pub record Outcome : Type 0 where
-  pub answer : Answer Flattening
-  pub left : List ℕ
-
--- accepted: the flat bytes, then the rest as lent; refused: all as lent
-unfoldable pub placed : List ℕ → List ℕ → Answer Flattening → List ℕ
-placed f out (accepted x) = f ++ drop (length f) out
-placed f out (refused n v) = out
-
-unfoldable pub outcome : List ℕ → Run → Outcome
-outcome out r = record { answer = verdict (length out) r; left = placed (flatOf r) out (verdict (length out) r) }
+-- and with room
+unfoldable pub outcome : List ℕ → Run → Outcome (Answer Flattening)
+outcome out r = into out (readyBy r (r .how))
 
 -- ---- flattening: both lists are looked at first
 
 -- refused with k unless the list is well formed
-unfoldable pub listGate : ℕ → List ℕ → Formation → Outcome → Outcome
+unfoldable pub listGate : ℕ → List ℕ → Formation → Outcome (Answer Flattening) → Outcome (Answer Flattening)
 listGate k out (yes n) then = then
-listGate k out (unread n) then = record { answer = refused k alone; left = out }
-listGate k out emptied then = record { answer = refused k alone; left = out }
-listGate k out (bad i) then = record { answer = refused k alone; left = out }
+listGate k out (unread n) then = leaving (refused k alone) out
+listGate k out emptied then = leaving (refused k alone) out
+listGate k out (bad i) then = leaving (refused k alone) out
 
-unfoldable pub flattening : Rules → List ℕ → List ℕ → List ℕ → ℕ → List ℕ → Outcome
+unfoldable pub flattening : Rules → List ℕ → List ℕ → List ℕ → ℕ → List ℕ → Outcome (Answer Flattening)
 flattening rules cs globals locals budget out =
-    listGate 1 out (formation 2 globals)
-    (listGate 2 out (formation 2 locals)
-    (outcome out (reading rules (listsOf 2 globals locals) budget cs)))
+    listGate 1 out (formation (rules .width) globals)
+    (listGate 2 out (formation (rules .width) locals)
+    (outcome out (original rules cs globals locals budget)))
 
 -- ---- what the enums say
 

@@ -13,18 +13,13 @@ use borrow.Author.Tests.{lt-ltb, le-ltb, ne-eqb}
 use Rattle.reading.specs.Rules.{Rules}
 use Rattle.reading.specs.Lists.{Lists}
 use Rattle.reading.specs.Tokens.{cut}
-use Rattle.reading.specs.Reading.{Shown, State, start, Ending, back, ended, stopped, Run, tokensBy, tokens, Step, halt, go, enter, refuse, onCut, step, resume, after, tokensOf, read, reading}
-use Rattle.reading.specs.StepLaws.{Begun, declines, goes, Goes, pushes, stems, clears, masks, enters, returns, ends, Stepped, spent, begun, step-is}
-use Rattle.reading.specs.RunLaws.{closed, Led, Kept, kept}
+use Rattle.reading.specs.Reading.{Shown, State, start, closed, Ending, back, ended, stopped, Accepted, Run, tokensBy, tokens, Step, halt, go, enter, refuse, onCut, onToken, resume, after, tokensOf, read, reading}
+use Rattle.reading.specs.StepLaws.{Begun, declines, goes, Goes, pushes, stems, clears, masks, enters, returns, ends, Stepped, spent, begun, token-is}
+use Rattle.reading.specs.RunLaws.{Led, Kept, kept}
 
 -- how many tokens a state has shown
 abbrev pub count : State → ℕ
 count s = length (s .shown)
-
-abbrev pub Accepted : Ending → Type 0
-Accepted back = Unit {0}
-Accepted ended = Unit {0}
-Accepted (stopped n) = ⊥
 
 -- ---- at most the budget
 
@@ -55,11 +50,11 @@ module _ (rules : Rules) (lists : Lists) (budget : ℕ) where
     under-begun x (goes y (ends p rest q k l)) = omega arith
 
   under-step : (levels at b : ℕ) (bs : List ℕ) (s : State) → Anything (b ∷ bs) → Under s
-      → Led rules lists budget Anything Under Counted levels (step rules lists levels at budget (b ∷ bs) s)
+      → Led rules lists budget Anything Under Counted levels (onToken rules lists budget levels at (b ∷ bs) s)
   unfolding tokensBy
-  under-step levels at b bs s h a = by-view _ (step-is rules lists levels at (b ∷ bs) s budget)
+  under-step levels at b bs s h a = by-view _ (token-is rules lists levels at (b ∷ bs) s budget)
     where
-      by-view : (x : Step) → Stepped rules lists levels at budget (b ∷ bs) s x → Led rules lists budget Anything Under Counted levels x
+      by-view : (x : Step) → Stepped rules lists budget levels at (b ∷ bs) s x → Led rules lists budget Anything Under Counted levels x
       by-view x (spent l) = a
       by-view x (begun y l v) = under-begun levels at (b ∷ bs) s l y v
 
@@ -188,17 +183,17 @@ module _ (rules : Rules) (lists : Lists) (b b′ : ℕ) where
     grown-begun x (goes y (ends p rest q k l)) = ((omega arith, λ c. refl), tt)
 
     -- under a budget that is not used up the step is the same
-    step-begun : (n : ℕ) → count s < n → step rules lists levels at n bytes s ≡ onCut rules lists levels at s (cut bytes)
-    unfolding step
+    step-begun : (n : ℕ) → count s < n → onToken rules lists n levels at bytes s ≡ onCut rules lists levels at s (cut bytes)
+    unfolding onToken
     step-begun n h = rw (lt-ltb (count s) n h)
 
-    step-spent : (n : ℕ) → n ≤ count s → step rules lists levels at n bytes s ≡ refuse 3 s
-    unfolding step
+    step-spent : (n : ℕ) → n ≤ count s → onToken rules lists n levels at bytes s ≡ refuse 3 s
+    unfolding onToken
     step-spent n h = rw (le-ltb (count s) n h)
 
     module _ (on on′ below below′ : List ℕ → State → Run) (f : Besides b′ on on′) (g : (levels ≡ 0 → ⊥) → Besides b′ below below′) where
       abbrev Goal : Type 0
-      Goal = Beside b′ s (after on below (step rules lists levels at b bytes s)) (after on′ below′ (step rules lists levels at b′ bytes s))
+      Goal = Beside b′ s (after on below (onToken rules lists b levels at bytes s)) (after on′ below′ (onToken rules lists b′ levels at bytes s))
 
       -- what is shown grows, whatever the budget
       grows-after : (x : Step) → Grown s x → Entered levels x
@@ -210,26 +205,26 @@ module _ (rules : Rules) (lists : Lists) (b b′ : ℕ) where
           let p = resumed-beside b′ (on rest) (on′ rest) (f rest) t (below body t) (below′ body t) (g n body t) (below body t .how) refl .grows in
           (omega arith, λ c. omega arith)
 
-      by-step : Stepped rules lists levels at b bytes s (step rules lists levels at b bytes s) → Goal
+      by-step : Stepped rules lists b levels at bytes s (onToken rules lists b levels at bytes s) → Goal
       unfolding after
       by-step v = go-by (decLt (count s) b) (decLt (count s) b′)
         where
-          seen : (y : Step) → y ≡ step rules lists levels at b bytes s → Stepped rules lists levels at b bytes s y → count s < b → Grown s y × Entered levels y
+          seen : (y : Step) → y ≡ onToken rules lists b levels at bytes s → Stepped rules lists b levels at bytes s y → count s < b → Grown s y × Entered levels y
           seen y e (spent l) h = absurd (omega arith)
           seen y e (begun z l w) h = grown-begun z w
 
           go-by : Dec (count s < b) → Dec (count s < b′) → Goal
           go-by (yes h) (yes h′) =
               let l = seen _ refl v h in
-              subst (λ (y : Step). Beside b′ s (after on below (step rules lists levels at b bytes s)) (after on′ below′ y)) (step-begun b h ∙ sym (step-begun b′ h′))
-              (both-begin b′ s levels on on′ below below′ f g h′ (step rules lists levels at b bytes s) (l .0) (l .1))
+              subst (λ (y : Step). Beside b′ s (after on below (onToken rules lists b levels at bytes s)) (after on′ below′ y)) (step-begun b h ∙ sym (step-begun b′ h′))
+              (both-begin b′ s levels on on′ below below′ f g h′ (onToken rules lists b levels at bytes s) (l .0) (l .1))
           go-by (yes h) (no h′) =
               let l = seen _ refl v h in
-              let m = grows-after (step rules lists levels at b bytes s) (l .0) (l .1) in
-              subst (λ (y : Step). Beside b′ s (after on below (step rules lists levels at b bytes s)) (after on′ below′ y)) (sym (step-spent b′ (omega arith)))
-              (not-begun b′ s (after on below (step rules lists levels at b bytes s)) (m .0) (m .1) (omega arith))
+              let m = grows-after (onToken rules lists b levels at bytes s) (l .0) (l .1) in
+              subst (λ (y : Step). Beside b′ s (after on below (onToken rules lists b levels at bytes s)) (after on′ below′ y)) (sym (step-spent b′ (omega arith)))
+              (not-begun b′ s (after on below (onToken rules lists b levels at bytes s)) (m .0) (m .1) (omega arith))
           go-by (no h) d =
-              subst (λ (y : Step). Beside b′ s (after on below y) (after on′ below′ (step rules lists levels at b′ bytes s))) (sym (step-spent b (omega arith)))
+              subst (λ (y : Step). Beside b′ s (after on below y) (after on′ below′ (onToken rules lists b′ levels at bytes s))) (sym (step-spent b (omega arith)))
               (record { grows = le-refl (count s); same = λ c. absurd c; less = λ c. absurd c })
 
   ran-out : (s : State) → Beside b′ s (record { how = back; state = s }) (record { how = back; state = s })
@@ -242,7 +237,7 @@ module _ (rules : Rules) (lists : Lists) (b b′ : ℕ) where
   tokens-beside levels below below′ g size (suc fuel) [] s = ran-out s
   tokens-beside levels below below′ g size (suc fuel) (c ∷ cs) s =
       by-step levels (size - length (c ∷ cs)) (c ∷ cs) s _ _ below below′ (tokens-beside levels below below′ g size fuel) g
-      (step-is rules lists levels (size - length (c ∷ cs)) (c ∷ cs) s b)
+      (token-is rules lists levels (size - length (c ∷ cs)) (c ∷ cs) s b)
 
   read-beside : (levels : ℕ) → Besides b′ (read rules lists b levels) (read rules lists b′ levels)
   unfolding read
@@ -253,10 +248,10 @@ module _ (rules : Rules) (lists : Lists) (b b′ : ℕ) where
   pub budget-enough : (cs : List ℕ) → Accepted (reading rules lists b cs .how) → count (reading rules lists b cs .state) ≤ b′
       → reading rules lists b′ cs ≡ reading rules lists b cs
   unfolding reading
-  budget-enough cs a h = read-beside (rules .depth - 1) cs start .same a h
+  budget-enough cs a h = read-beside (rules .levels) cs start .same a h
 
   -- a smaller one is refused with 3, and the budget is the count
   pub budget-short : (cs : List ℕ) → Accepted (reading rules lists b cs .how) → b′ < count (reading rules lists b cs .state)
       → (reading rules lists b′ cs .how ≡ stopped 3) × (count (reading rules lists b′ cs .state) ≡ b′)
   unfolding reading
-  budget-short cs a h = read-beside (rules .depth - 1) cs start .less a zero-le h
+  budget-short cs a h = read-beside (rules .levels) cs start .less a zero-le h

@@ -13,12 +13,9 @@ use Rattle.number.specs.Number.{Number, charstringRows, Found, row, noRow, rowO
 use Rattle.number.specs.NumberLaws.{read-some}
 use Rattle.number.specs.RoundTrip.{read-width, read-inside, Width, one, two, three, five, Spellable, read-spellable}
 use Rattle.number.specs.declared.Operand.{Operand}
-use Rattle.reading.specs.Tokens.{Token, number, operator, Cut, token, lacking, escapedAt, operatorAt, cutBy, cut}
+use Rattle.reading.specs.Tokens.{Bytes, Token, number, operator, Cut, token, lacking, escapedAt, operatorAt, cutBy, cut}
 use Rattle.reading.specs.Flat.{operatorBytes}
 use Rattle.reading.specs.declared.Operator.{Operator}
-
-abbrev pub Bytes : List ℕ → Type 0
-Bytes s = (i : ℕ) → getD s i 0 < 256
 
 -- bytes behind a byte are bytes
 pub bytes-drop : (n : ℕ) (s : List ℕ) → Bytes s → Bytes (drop n s)

@@ -7,7 +7,7 @@ use Rattle.number.specs.Number.{charstringRows}
 use Rattle.number.specs.Written.{spelling}
 use Rattle.reading.specs.Rules.{Rules}
 use Rattle.reading.specs.Tokens.{Token, number, operator, Cut, token, lacking, cut}
-use Rattle.reading.specs.Items.{Item, operand, plainly, masked, atMask, leftBy}
+use Rattle.reading.specs.Items.{Item, operand, bare, masked, atMask, leftBy}
 use Rattle.reading.specs.declared.Operator.{Operator}
 use Rattle.reading.specs.declared.Kind.{Kind}
 use Rattle.reading.specs.declared.Kind.the-variants.{Stem, Clear, Mask, Call, Return, End, Unknown}
@@ -20,7 +20,7 @@ operatorBytes p = cond (p .escaped) (12 ∷ p .byte ∷ []) (p .byte ∷ [])
 -- an integer in its shortest form, a Fixed in five bytes
 unfoldable pub spelled : Item → List ℕ
 spelled (operand o) = spelling charstringRows o
-spelled (plainly p) = operatorBytes p
+spelled (bare p) = operatorBytes p
 spelled (masked p m) = operatorBytes p ++ m
 
 -- the bytes of items of which the latest stands first
@@ -50,7 +50,7 @@ shownBehind rules f p rest =
     let n = atMask (leftBy rules f) .mask in
     cond (isMask (rules .kind p))
     (record { items = masked p (take n rest) ∷ f; rest = drop n rest })
-    (record { items = plainly p ∷ f; rest = rest })
+    (record { items = bare p ∷ f; rest = rest })
 
 module _ (rules : Rules) where
   unfoldable pub behind : (List Item → List ℕ → Straight) → List Item → List ℕ → Cut → Straight

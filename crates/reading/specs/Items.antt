@@ -14,7 +14,7 @@ use Rattle.reading.specs.declared.Kind.the-variants.{Stem, Clear, Mask, 
 -- an operand, an operator, or a mask operator with its bytes
 pub data Item : Type 0 where
   operand : Operand → Item
-  plainly : Operator → Item
+  bare : Operator → Item
   masked : Operator → List ℕ → Item
 
 pub record Left : Type 0 where
@@ -56,7 +56,7 @@ byKind Unknown x = x
 
 unfoldable pub leaves : Rules → Item → Left → Left
 leaves rules (operand o) x = pushed o x
-leaves rules (plainly p) x = byKind (rules .kind p) x
+leaves rules (bare p) x = byKind (rules .kind p) x
 leaves rules (masked p m) x = atMask x
 
 -- of items of which the latest stands first

@@ -5,6 +5,8 @@ pub mod Items
 pub mod Reading
 pub mod Flat
 pub mod Answers
+pub mod Masks
+pub mod Demands
 pub mod CutLaws
 pub mod StepLaws
 pub mod RunLaws
@@ -14,7 +16,7 @@ pub mod ValidLaws
 pub mod SizeLaws
 pub mod StraightLaws
 pub mod AnswerLaws
-pub mod SameGlyph
-pub mod Masks
+pub mod SameGlyphLaws
 pub mod MaskLaws
+pub mod DemandLaws
 pub mod Rows

@@ -6,13 +6,13 @@ use Rattle.index.specs.Index.{Extent, Place, extent, place, part}
 use Rattle.reading.specs.declared.Which.{Which}
 use Rattle.reading.specs.declared.Which.the-variants.{Local, Global}
 
-pub data Entry : Type 0 where
-  present : List ℕ → Entry
-  absent : Entry
+pub data Entry (A : Type 0) : Type 0 where
+  present : A → Entry A
+  absent : Entry A
 
 pub record Subrs : Type 0 where
   pub count : ℕ
-  pub entry : ℕ → Entry
+  pub entry : ℕ → Entry (List ℕ)
 
 pub record Lists : Type 0 where
   pub globals : Subrs
@@ -28,9 +28,9 @@ unfoldable pub countIn : Answer Extent → ℕ
 countIn (accepted x) = x .entries
 countIn (refused n v) = 0
 
-unfoldable pub entryBy : List ℕ → Answer Place → Entry
-entryBy bytes (accepted p) = present bytes
-entryBy bytes (refused n v) = absent
+unfoldable pub entryBy : {A : Type 0} → A → Answer Place → Entry A
+entryBy x (accepted p) = present x
+entryBy x (refused n v) = absent
 
 unfoldable pub subrsOf : ℕ → List ℕ → Subrs
 subrsOf w s = record { count = countIn (extent w s); entry = λ k. entryBy (part w s k) (place w s k) }

@@ -1,4 +1,4 @@
--- Every mask of an accepted run has as many bytes as TN5177 alone gives it, where all stems stand before the first mask with bytes. Assumes nothing.
+-- Where all stems stand before the first mask with bytes, every mask of valid items has as many bytes as TN5177 alone gives it. Assumes nothing.
 use mathlib.Core.Path.{_≡_, refl, sym, ap, subst, _∙_}
 use mathlib.Core.Bool.{Bool, true, false, cond}
 use mathlib.Core.List.{List, [], _∷_}
@@ -8,14 +8,9 @@ use lib.Dec.{eqb}
 use lib.ListN.{length}
 use borrow.Author.Tests.{eq-eqb, ne-eqb, eqb-true, eqb-false}
 use Rattle.reading.specs.Rules.{Rules}
-use Rattle.reading.specs.Lists.{Lists}
-use Rattle.reading.specs.CutLaws.{Bytes}
-use Rattle.reading.specs.Items.{Item, operand, plainly, masked, Left, atMask, byKind, leaves, leftBy}
-use Rattle.reading.specs.Reading.{struck, reading}
+use Rattle.reading.specs.Items.{Item, operand, bare, masked, Left, atMask, byKind, leaves, leftBy}
 use Rattle.reading.specs.Masks.{isStem, waiting, hasMask, declared, maskBytes, StemsFirst, ByNote}
-use Rattle.reading.specs.BudgetLaws.{Accepted}
-use Rattle.reading.specs.ValidLaws.{Valid, none, number-behind, stem-behind, clear-behind, mask-behind, Whole, open-ended, end-behind, Plain}
-use Rattle.reading.specs.SameGlyph.{whole}
+use Rattle.reading.specs.ValidLaws.{Valid, none, number-behind, stem-behind, clear-behind, mask-behind, Whole, open-ended, end-behind}
 use Rattle.reading.specs.declared.Kind.{Kind}
 use Rattle.reading.specs.declared.Kind.the-variants.{Stem, Clear, Mask, Call, Return, End, Unknown}
 
@@ -44,7 +39,7 @@ module _ (rules : Rules) where
     tied-number o (before h m n k) = before h m n (ap suc k)
     tied-number o (behind h p m) = behind h p m
 
-    tied-stem : (p : _) → rules .kind p ≡ Stem → (isStem (rules .kind p) ≡ true → hasMask f ≡ false) → Tied rules f → Tied rules (plainly p ∷ f)
+    tied-stem : (p : _) → rules .kind p ≡ Stem → (isStem (rules .kind p) ≡ true → hasMask f ≡ false) → Tied rules f → Tied rules (bare p ∷ f)
     unfolding leftBy leaves byKind hasMask declared waiting
     tied-stem p e first (before h m n k) =
         before h (ap (λ (y : Kind). byKind y x .mask) e ∙ m)
@@ -55,7 +50,7 @@ module _ (rules : Rules) where
         hints-are = rw (n, k)
     tied-stem p e first (behind h q m) = let z = sym (first (ap isStem e)) ∙ h in let w : _≡_ {A = ℕ} 0 1 = ap (λ (b : Bool). cond b 1 0) z in absurd (omega arith)
 
-    tied-clear : (p : _) → rules .kind p ≡ Clear → Tied rules f → Tied rules (plainly p ∷ f)
+    tied-clear : (p : _) → rules .kind p ≡ Clear → Tied rules f → Tied rules (bare p ∷ f)
     unfolding leftBy leaves byKind hasMask declared waiting
     tied-clear p e (before h m n k) =
         before h (ap (λ (y : Kind). byKind y x .mask) e ∙ m)
@@ -101,11 +96,6 @@ module _ (rules : Rules) where
   valid-note f (clear-behind p g c k v) s = valid-note g v (s .1)
   valid-note f (mask-behind p m g c k l n v) s = (n ∙ mask-now g (tied g v s), valid-note g v s)
 
-  whole-note : (f : List Item) → Whole rules f → StemsFirst rules f → ByNote rules f
+  pub whole-note : (f : List Item) → Whole rules f → StemsFirst rules f → ByNote rules f
   whole-note f (open-ended g v) s = valid-note g v s
   whole-note f (end-behind p g c k l v) s = valid-note g v (s .1)
-
--- in an accepted run whose stems all stand before the first mask with bytes, every mask has exactly the note's bytes
-pub masks-by-note : (rules : Rules) (lists : Lists) (budget : ℕ) (cs : List ℕ) → Plain lists → Bytes cs → Accepted (reading rules lists budget cs .how)
-    → StemsFirst rules (struck (reading rules lists budget cs .state .shown)) → ByNote rules (struck (reading rules lists budget cs .state .shown))
-masks-by-note rules lists budget cs plain bytes a s = whole-note rules _ (whole rules lists budget cs plain bytes a) s

@@ -7,7 +7,7 @@ use mathlib.Core.List.{List, [], _∷_}
 use lib.ListN.{length}
 use lib.Dec.{eqb}
 use Rattle.reading.specs.Rules.{Rules}
-use Rattle.reading.specs.Items.{Item, operand, plainly, masked}
+use Rattle.reading.specs.Items.{Item, operand, bare, masked}
 use Rattle.reading.specs.declared.Kind.{Kind}
 use Rattle.reading.specs.declared.Kind.the-variants.{Stem, Clear, Mask, Call, Return, End, Unknown}
 
@@ -24,21 +24,21 @@ isStem Unknown = false
 unfoldable pub waiting : List Item → ℕ
 waiting [] = 0
 waiting (operand o ∷ f) = suc (waiting f)
-waiting (plainly p ∷ f) = 0
+waiting (bare p ∷ f) = 0
 waiting (masked p m ∷ f) = 0
 
 -- whether a mask with bytes stands among the items
 unfoldable pub hasMask : List Item → Bool
 hasMask [] = false
 hasMask (operand o ∷ f) = hasMask f
-hasMask (plainly p ∷ f) = hasMask f
+hasMask (bare p ∷ f) = hasMask f
 hasMask (masked p m ∷ f) = cond (eqb (length m) 0) (hasMask f) true
 
 -- the hints that items declare
 unfoldable pub declared : Rules → List Item → ℕ
 declared rules [] = 0
 declared rules (operand o ∷ f) = declared rules f
-declared rules (plainly p ∷ f) = cond (isStem (rules .kind p)) (declared rules f + waiting f / 2) (declared rules f)
+declared rules (bare p ∷ f) = cond (isStem (rules .kind p)) (declared rules f + waiting f / 2) (declared rules f)
 declared rules (masked p m ∷ f) = cond (hasMask f) (declared rules f) (declared rules f + waiting f / 2)
 
 -- how many bytes a mask has that stands behind the items f
@@ -49,12 +49,12 @@ maskBytes rules f = (cond (hasMask f) (declared rules f) (declared rules f + wai
 abbrev pub StemsFirst : Rules → List Item → Type 0
 StemsFirst rules [] = Unit {0}
 StemsFirst rules (operand o ∷ f) = StemsFirst rules f
-StemsFirst rules (plainly p ∷ f) = (isStem (rules .kind p) ≡ true → hasMask f ≡ false) × StemsFirst rules f
+StemsFirst rules (bare p ∷ f) = (isStem (rules .kind p) ≡ true → hasMask f ≡ false) × StemsFirst rules f
 StemsFirst rules (masked p m ∷ f) = StemsFirst rules f
 
 -- each mask has as many bytes as the note says
 abbrev pub ByNote : Rules → List Item → Type 0
 ByNote rules [] = Unit {0}
 ByNote rules (operand o ∷ f) = ByNote rules f
-ByNote rules (plainly p ∷ f) = ByNote rules f
+ByNote rules (bare p ∷ f) = ByNote rules f
 ByNote rules (masked p m ∷ f) = (length m ≡ maskBytes rules f) × ByNote rules f

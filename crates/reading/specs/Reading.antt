@@ -5,13 +5,13 @@ use mathlib.Core.Bool.{Bool, true, false, cond}
 use mathlib.Core.List.{List, [], _∷_}
 use lib.ListN.{length, take, drop}
 use lib.Dec.{eqb, leb, ltb}
-use Rattle.number.specs.Answer.{Answer, accepted, refused}
+use Rattle.number.specs.Answer.{Answer, accepted, refused, alone}
 use Rattle.number.specs.Call.{callee}
 use Rattle.number.specs.declared.Operand.{Operand}
 use Rattle.reading.specs.Rules.{Rules}
-use Rattle.reading.specs.Lists.{Lists, Subrs, Entry, present, absent, listed}
+use Rattle.reading.specs.Lists.{Lists, Subrs, Entry, present, absent, listed, listsOf}
 use Rattle.reading.specs.Tokens.{Token, number, operator, Cut, token, lacking, cut}
-use Rattle.reading.specs.Items.{Item, operand, plainly, masked, Left, nothing, pushed, popped, cleared, counted, atMask}
+use Rattle.reading.specs.Items.{Item, operand, bare, masked, Left, nothing, pushed, popped, cleared, counted, atMask}
 use Rattle.reading.specs.declared.Operator.{Operator}
 use Rattle.reading.specs.declared.Which.{Which}
 use Rattle.reading.specs.declared.Kind.{Kind}
@@ -54,6 +54,12 @@ pub data Ending : Type 0 where
   ended : Ending
   stopped : ℕ → Ending
 
+-- a run that comes to its end is accepted
+abbrev pub Accepted : Ending → Type 0
+Accepted back = Unit {0}
+Accepted ended = Unit {0}
+Accepted (stopped n) = ⊥
+
 pub record Run : Type 0 where
   pub how : Ending
   pub state : State
@@ -78,14 +84,24 @@ pub data Step : Type 0 where
 abbrev pub refuse : ℕ → State → Step
 refuse n s = halt (stopped n) s
 
+-- the states behind an item that leaves x, within an entry, behind a return, and back in the caller
 abbrev pub shows : Item → Left → State → State
 shows i x s = record { left = x; shown = item i ∷ s .shown; within = s .within }
 
--- whether the last item is an operand; it is then the one on top of the stack (`index-is-last` of StruckLaws.antt)
+abbrev pub entered : Entering → State → State
+entered c s = record { left = popped (s .left); shown = call c ∷ s .shown; within = c ∷ s .within }
+
+abbrev pub returned : State → State
+returned s = record { left = s .left; shown = return ∷ s .shown; within = s .within }
+
+abbrev pub closed : State → State
+closed s = record { left = s .left; shown = s .shown; within = drop 1 (s .within) }
+
+-- whether the last item is an operand; it is then the one on top of the stack (`index-is-last` of ValidLaws.antt)
 unfoldable pub endsInOperand : List Item → Bool
 endsInOperand [] = false
 endsInOperand (operand o ∷ f) = true
-endsInOperand (plainly p ∷ f) = false
+endsInOperand (bare p ∷ f) = false
 endsInOperand (masked p m ∷ f) = false
 
 module _ (rules : Rules) (rest : List ℕ) (s : State) where
@@ -97,7 +113,7 @@ module _ (rules : Rules) (rest : List ℕ) (s : State) where
   onNumber o = cond (ltb (length (s .left .operands)) (rules .operands)) (go rest (shows (operand o) (pushed o (s .left)) s)) (refuse 5 s)
 
   unfoldable pub onStem : Operator → Step
-  onStem p = hinted (counted (s .left)) (go rest (shows (plainly p) (counted (s .left)) s))
+  onStem p = hinted (counted (s .left)) (go rest (shows (bare p) (counted (s .left)) s))
 
   unfoldable pub onMask : Operator → Step
   onMask p =
@@ -107,23 +123,24 @@ module _ (rules : Rules) (rest : List ℕ) (s : State) where
       (cond (leb n (length rest)) (go (drop n rest) (shows (masked p (take n rest)) x s)) (refuse 4 s))
 
   unfoldable pub onEnd : Operator → Step
-  onEnd p = cond (ltb (length (s .left .operands)) 4) (halt ended (shows (plainly p) (s .left) s)) (refuse 12 s)
+  onEnd p = cond (ltb (length (s .left .operands)) 4) (halt ended (shows (bare p) (s .left) s)) (refuse 12 s)
+
+-- Whether a call enters: 9 where its entry is absent, 10 where no level is left, 8 where its index does not stand last in the flat string.
+unfoldable pub admitted : {A : Type 0} → ℕ → Bool → Entry A → Answer A
+admitted levels last absent = refused 9 alone
+admitted levels last (present x) = cond (eqb levels 0) (refused 10 alone) (cond last (accepted x) (refused 8 alone))
+
+unfoldable pub onEntry : List ℕ → State → Entering → Answer (List ℕ) → Step
+onEntry rest s c (refused n v) = refuse n s
+onEntry rest s c (accepted body) = enter body rest (entered c s)
 
 module _ (levels : ℕ) (rest : List ℕ) (s : State) where
-  -- 9, 10, 8
-  unfoldable pub onEntry : Entering → Entry → Step
-  onEntry c absent = refuse 9 s
-  onEntry c (present body) =
-      cond (eqb levels 0) (refuse 10 s)
-      (cond (endsInOperand (struck (s .shown)))
-      (enter body rest (record { left = popped (s .left); shown = call c ∷ s .shown; within = c ∷ s .within }))
-      (refuse 8 s))
-
   module _ (which : Which) (list : Subrs) (at : ℕ) where
     -- 7, or 9 for a number that is not below the count
     unfoldable pub onIndex : Operand → Answer ℕ → Step
     onIndex o (refused n v) = refuse n s
-    onIndex o (accepted k) = onEntry (record { list = which; entry = k; at = at; index = o }) (list .entry k)
+    onIndex o (accepted k) =
+        onEntry rest s (record { list = which; entry = k; at = at; index = o }) (admitted levels (endsInOperand (struck (s .shown))) (list .entry k))
 
     unfoldable pub onCall : Bool → List Operand → Step
     onCall exact [] = refuse 7 s
@@ -132,10 +149,10 @@ module _ (levels : ℕ) (rest : List ℕ) (s : State) where
 module _ (rules : Rules) (lists : Lists) (levels at : ℕ) where
   unfoldable pub onOperator : List ℕ → State → Operator → Kind → Step
   onOperator rest s p Stem = onStem rules rest s p
-  onOperator rest s p Clear = go rest (shows (plainly p) (cleared (s .left)) s)
+  onOperator rest s p Clear = go rest (shows (bare p) (cleared (s .left)) s)
   onOperator rest s p Mask = onMask rules rest s p
   onOperator rest s p (Call which) = onCall levels rest s which (listed lists which) at (rules .exact) (s .left .operands)
-  onOperator rest s p Return = halt back (record { left = s .left; shown = return ∷ s .shown; within = s .within })
+  onOperator rest s p Return = halt back (returned s)
   onOperator rest s p End = onEnd rules rest s p
   onOperator rest s p Unknown = refuse 6 s
 
@@ -144,15 +161,15 @@ module _ (rules : Rules) (lists : Lists) (levels at : ℕ) where
   onCut s (token (number o) rest) = onNumber rules rest s o
   onCut s (token (operator p) rest) = onOperator rest s p (rules .kind p)
 
-  -- the token at the start of bytes, which stands at `at`
-  unfoldable pub step : ℕ → List ℕ → State → Step
-  step budget bytes s = cond (ltb (length (s .shown)) budget) (onCut s (cut bytes)) (refuse 3 s)
+-- the token at the start of bytes, which stands at `at`
+unfoldable pub onToken : Rules → Lists → ℕ → ℕ → ℕ → List ℕ → State → Step
+onToken rules lists budget levels at bytes s =
+    cond (ltb (length (s .shown)) budget) (onCut rules lists levels at s (cut bytes)) (refuse 3 s)
 
 -- ---- a string
 
--- a subroutine that came back is open no more
 unfoldable pub resume : (State → Run) → Run → Ending → Run
-resume on r back = on (record { left = r .state .left; shown = r .state .shown; within = drop 1 (r .state .within) })
+resume on r back = on (closed (r .state))
 resume on r ended = r
 resume on r (stopped n) = r
 
@@ -163,13 +180,13 @@ after on below (enter body rest s) = let r : Run = below body s in resume (on re
 
 module _ (rules : Rules) (lists : Lists) (budget : ℕ) where
   -- The tokens of a string of `size` bytes, of which rest are left; `below` runs a subroutine. Each token takes a byte at least, so that as
-  -- much fuel as there are bytes is enough (`fuel-enough` of FuelLaws.antt).
+  -- much fuel as there are bytes is enough (`fuel-enough` of RunLaws.antt).
   unfoldable pub tokensOf : ℕ → (List ℕ → State → Run) → ℕ → ℕ → List ℕ → State → Run
   tokensOf levels below size zero rest s = record { how = back; state = s }
   tokensOf levels below size (suc fuel) [] s = record { how = back; state = s }
   tokensOf levels below size (suc fuel) (b ∷ bs) s =
       after (λ more t. tokensOf levels below size fuel more t) below
-      (step rules lists levels (size - length (b ∷ bs)) budget (b ∷ bs) s)
+      (onToken rules lists budget levels (size - length (b ∷ bs)) (b ∷ bs) s)
 
   -- a string, with so many levels of calls left below it; at none a call is refused before it is followed
   unfoldable pub read : ℕ → List ℕ → State → Run
@@ -178,4 +195,8 @@ module _ (rules : Rules) (lists : Lists) (budget : ℕ) where
 
   -- a charstring, from the start
   unfoldable pub reading : List ℕ → Run
-  reading cs = read (rules .depth - 1) cs start
+  reading cs = read (rules .levels) cs start
+
+-- the reading of a charstring whose lists are these bytes
+abbrev pub original : Rules → List ℕ → List ℕ → List ℕ → ℕ → Run
+original rules cs globals locals budget = reading rules (listsOf (rules .width) globals locals) budget cs

@@ -4,7 +4,7 @@ use mathlib.Core.List.{List, [], _∷_, _++_}
 use mathlib.Core.Bool.{Bool, true, false, cond}
 use Prim.Native.Nat.{ℕ}
 use lib.ListN.{length, drop, replicate}
-use Rattle.number.specs.Answer.{Answer, accepted, refused}
+use Rattle.number.specs.Answer.{Values, alone, atToken, needingAt, Answer, accepted, refused, Outcome, leaving, into}
 use Rattle.number.specs.BigEndian.{beAt, bytesOf}
 use Rattle.number.specs.Signed.{signed, unsigned}
 use Rattle.number.specs.Number.{integerRows, rowsOf, rowOf, valueBy, numberBy, readBy}
@@ -12,17 +12,17 @@ use Rattle.number.specs.Written.{formBy, spell, bytes, bytesBy, spelling}
 use Rattle.number.specs.Call.{bitLength, counts, callIndex, entryOf, biased, callee}
 use Rattle.index.specs.Index.{offset, byLast, bySize, byCount, extent, absent, placeBy, placeIn, place, bytesBy as partBytes, part}
 use Rattle.index.specs.Formed.{entriesFrom, formedBy, formation}
-use Rattle.reading.specs.Rules.{Rules, plain, strict, plainKind, escapedKind, type2}
-use Rattle.reading.specs.Lists.{countIn, entryBy, subrsOf, listsOf}
+use Rattle.reading.specs.Rules.{Rules, plain, strict, byteKind, escapedKind, type2}
+use Rattle.reading.specs.Lists.{absent as absent-entry, countIn, entryBy, subrsOf, listsOf}
 use Rattle.reading.specs.Tokens.{escapedAt, operatorAt, cutBy, cut}
-use Rattle.reading.specs.Reading.{struck, tokensBy, endsInOperand, onNumber, onStem, onMask, onEnd, onEntry, onIndex, onCall, onOperator, onCut, step, resume, after, tokensOf, read, reading}
+use Rattle.reading.specs.Reading.{struck, tokensBy, endsInOperand, admitted, onNumber, onStem, onMask, onEnd, onEntry, onIndex, onCall, onOperator, onCut, onToken, resume, after, tokensOf, read, reading}
 use Rattle.reading.specs.Flat.{spelled, flat}
-use Rattle.reading.specs.Answers.{Flattening, Outcome, verdictBy, placed, outcome, listGate, flattening}
+use Rattle.reading.specs.Answers.{Flattening, readyBy, outcome, listGate, flattening}
 
--- what a row expects: a flat string and its tokens, or a refusal and its values
+-- what a row expects: a flat string and its tokens, or a refusal and what comes with it
 pub data Expected : Type 0 where
   gives : List ℕ → ℕ → Expected
-  refuses : ℕ → List ℕ → Expected
+  refuses : ℕ → Values → Expected
 
 pub record Row : Type 0 where
   pub charstring : List ℕ
@@ -37,9 +37,9 @@ pub record Row : Type 0 where
 abbrev pub lent : Row → List ℕ
 lent r = replicate (r .room) 0xA5
 
-unfoldable pub expectedBy : List ℕ → Expected → Outcome
-expectedBy out (gives f t) = record { answer = accepted (record { size = length f; tokens = t }); left = f ++ drop (length f) out }
-expectedBy out (refuses n v) = record { answer = refused n v; left = out }
+unfoldable pub expectedBy : List ℕ → Expected → Outcome (Answer Flattening)
+expectedBy out (gives f t) = leaving (accepted (record { size = length f; tokens = t })) (f ++ drop (length f) out)
+expectedBy out (refuses n v) = leaving (refused n v) out
 
 abbrev pub Holds : Row → Type 0
 Holds r = flattening (r .rules) (r .charstring) (r .globals) (r .locals) (r .budget) (lent r) ≡ expectedBy (lent r) (r .expected)
@@ -74,7 +74,7 @@ abbrev pub starred : List Row
 starred =
     row [] none (gives [] 0)
     ∷ row (0x20 ∷ 0x0A ∷ 0x0E ∷ []) L (gives (0x8C ∷ 0x8D ∷ 0x15 ∷ 0x0E ∷ []) 7)
-    ∷ within plain 1000 3 (0x20 ∷ 0x0A ∷ 0x0E ∷ []) none L (refuses 13 (4 ∷ 7 ∷ []))
+    ∷ within plain 1000 3 (0x20 ∷ 0x0A ∷ 0x0E ∷ []) none L (refuses 13 (needingAt 4 7))
     ∷ row (0xFF ∷ 0xFF ∷ 0x95 ∷ 0x00 ∷ 0x00 ∷ 0x0A ∷ 0x0E ∷ []) L (gives (0x8C ∷ 0x8D ∷ 0x15 ∷ 0x0E ∷ []) 7)
     ∷ row (0x1C ∷ 0x00 ∷ 0x05 ∷ 0x0E ∷ []) none (gives (0x90 ∷ 0x0E ∷ []) 2)
     ∷ row (0x0B ∷ 0x00 ∷ []) none (gives [] 1)
@@ -82,37 +82,90 @@ starred =
     ∷ row (0x20 ∷ 0x0A ∷ 0x00 ∷ []) (0x00 ∷ 0x01 ∷ 0x01 ∷ 0x01 ∷ 0x02 ∷ 0x0E ∷ []) (gives (0x0E ∷ []) 3)
     ∷ row (0x8B ∷ 0x8C ∷ 0x01 ∷ 0x8B ∷ 0x8C ∷ 0x13 ∷ 0x80 ∷ 0x0E ∷ []) none (gives (0x8B ∷ 0x8C ∷ 0x01 ∷ 0x8B ∷ 0x8C ∷ 0x13 ∷ 0x80 ∷ 0x0E ∷ []) 7)
     ∷ row (0x13 ∷ 0x0E ∷ []) none (gives (0x13 ∷ 0x0E ∷ []) 2)
-    ∷ row (0x8B ∷ 0x8B ∷ 0x8B ∷ 0x8B ∷ 0x0E ∷ []) none (refuses 12 (5 ∷ []))
+    ∷ row (0x8B ∷ 0x8B ∷ 0x8B ∷ 0x8B ∷ 0x0E ∷ []) none (refuses 12 (atToken 5))
     ∷ row (0x8B ∷ 0x8B ∷ 0x8B ∷ 0x0E ∷ []) none (gives (0x8B ∷ 0x8B ∷ 0x8B ∷ 0x0E ∷ []) 4)
-    ∷ row (0x8B ∷ 0x8C ∷ 0x01 ∷ 0x13 ∷ 0x80 ∷ 0x20 ∷ 0x13 ∷ 0x80 ∷ 0x0A ∷ []) L (refuses 8 (7 ∷ []))
-    ∷ row (0x20 ∷ 0x0A ∷ []) itself (refuses 10 (128 ∷ []))
-    ∷ within plain 127 32 (0x20 ∷ 0x0A ∷ []) none itself (refuses 3 (127 ∷ []))
+    ∷ row (0x8B ∷ 0x8C ∷ 0x01 ∷ 0x13 ∷ 0x80 ∷ 0x20 ∷ 0x13 ∷ 0x80 ∷ 0x0A ∷ []) L (refuses 8 (atToken 7))
+    ∷ row (0x20 ∷ 0x0A ∷ []) itself (refuses 10 (atToken 128))
+    ∷ within plain 127 32 (0x20 ∷ 0x0A ∷ []) none itself (refuses 3 (atToken 127))
     ∷ []
+
+-- sixteen operands, declared as eight hints behind the first mask
+abbrev late : List ℕ
+late = 0x8B ∷ 0x8C ∷ 0x01 ∷ 0x13 ∷ 0x80 ∷ (replicate 16 0x8B ++ (0x01 ∷ 0x13 ∷ 0x80 ∷ 0x0E ∷ []))
+
+-- a list of ten entries: an endchar, and nine of which each calls the one before it
+abbrev chain : List ℕ
+chain =
+    0x00 ∷ 0x0A ∷ 0x01
+    ∷ 0x01 ∷ 0x02 ∷ 0x04 ∷ 0x06 ∷ 0x08 ∷ 0x0A ∷ 0x0C ∷ 0x0E ∷ 0x10 ∷ 0x12 ∷ 0x14
+    ∷ 0x0E ∷ 0x20 ∷ 0x0A ∷ 0x21 ∷ 0x0A ∷ 0x22 ∷ 0x0A ∷ 0x23 ∷ 0x0A ∷ 0x24 ∷ 0x0A ∷ 0x25 ∷ 0x0A ∷ 0x26 ∷ 0x0A ∷ 0x27 ∷ 0x0A ∷ 0x28 ∷ 0x0A ∷ []
 
 -- what those rows miss
 abbrev pub more : List Row
 more =
     -- the mask length stays when later stems come
-    row (0x8B ∷ 0x8C ∷ 0x01 ∷ 0x13 ∷ 0x80 ∷ 0x8B ∷ 0x8B ∷ 0x8B ∷ 0x8B ∷ 0x8B ∷ 0x8B ∷ 0x8B ∷ 0x8B ∷ 0x8B ∷ 0x8B ∷ 0x8B ∷ 0x8B ∷ 0x8B ∷ 0x8B ∷ 0x8B ∷ 0x8B ∷ 0x01 ∷ 0x13 ∷ 0x80 ∷ 0x0E ∷ []) none (gives (0x8B ∷ 0x8C ∷ 0x01 ∷ 0x13 ∷ 0x80 ∷ 0x8B ∷ 0x8B ∷ 0x8B ∷ 0x8B ∷ 0x8B ∷ 0x8B ∷ 0x8B ∷ 0x8B ∷ 0x8B ∷ 0x8B ∷ 0x8B ∷ 0x8B ∷ 0x8B ∷ 0x8B ∷ 0x8B ∷ 0x8B ∷ 0x01 ∷ 0x13 ∷ 0x80 ∷ 0x0E ∷ []) 23)
+    row late none (gives late 23)
     -- an index that a subroutine left on the stack
     ∷ row (0x20 ∷ 0x0A ∷ 0x0A ∷ 0x0E ∷ []) (0x00 ∷ 0x02 ∷ 0x01 ∷ 0x01 ∷ 0x03 ∷ 0x04 ∷ 0x21 ∷ 0x0B ∷ 0x0B ∷ []) (gives (0x0E ∷ []) 7)
     -- a global call
     ∷ within plain 1000 32 (0x20 ∷ 0x1D ∷ 0x0E ∷ []) L none (gives (0x8C ∷ 0x8D ∷ 0x15 ∷ 0x0E ∷ []) 7)
     -- a call two deep that ends everything
     ∷ row (0x21 ∷ 0x0A ∷ 0x00 ∷ []) (0x00 ∷ 0x02 ∷ 0x01 ∷ 0x01 ∷ 0x02 ∷ 0x05 ∷ 0x0E ∷ 0x20 ∷ 0x0A ∷ 0x00 ∷ []) (gives (0x0E ∷ []) 5)
-    -- strict: depth 11, and depth 12
-    ∷ within strict 1000 32 (0x29 ∷ 0x0A ∷ []) none (0x00 ∷ 0x0A ∷ 0x01 ∷ 0x01 ∷ 0x02 ∷ 0x04 ∷ 0x06 ∷ 0x08 ∷ 0x0A ∷ 0x0C ∷ 0x0E ∷ 0x10 ∷ 0x12 ∷ 0x14 ∷ 0x0E ∷ 0x20 ∷ 0x0A ∷ 0x21 ∷ 0x0A ∷ 0x22 ∷ 0x0A ∷ 0x23 ∷ 0x0A ∷ 0x24 ∷ 0x0A ∷ 0x25 ∷ 0x0A ∷ 0x26 ∷ 0x0A ∷ 0x27 ∷ 0x0A ∷ 0x28 ∷ 0x0A ∷ []) (gives (0x0E ∷ []) 21)
-    ∷ within strict 1000 32 (0x20 ∷ 0x0A ∷ []) none itself (refuses 10 (22 ∷ []))
+    -- strict: ten levels of calls, and eleven
+    ∷ within strict 1000 32 (0x29 ∷ 0x0A ∷ []) none chain (gives (0x0E ∷ []) 21)
+    ∷ within strict 1000 32 (0x20 ∷ 0x0A ∷ []) none itself (refuses 10 (atToken 22))
     -- strict: an index that f32 would round
-    ∷ within strict 1000 32 (0xFF ∷ 0x01 ∷ 0x2C ∷ 0x00 ∷ 0x01 ∷ 0x0A ∷ []) none L (refuses 7 (2 ∷ []))
+    ∷ within strict 1000 32 (0xFF ∷ 0x01 ∷ 0x2C ∷ 0x00 ∷ 0x01 ∷ 0x0A ∷ []) none L (refuses 7 (atToken 2))
     -- budget 6 is enough where running out is no token, and 5 is not
     ∷ within plain 6 32 (0x20 ∷ 0x0A ∷ []) none L (gives (0x8C ∷ 0x8D ∷ 0x15 ∷ []) 6)
-    ∷ within plain 5 32 (0x20 ∷ 0x0A ∷ []) none L (refuses 3 (5 ∷ []))
+    ∷ within plain 5 32 (0x20 ∷ 0x0A ∷ []) none L (refuses 3 (atToken 5))
     -- a list that is not well formed: the global one first
-    ∷ within plain 0 32 [] [] [] (refuses 1 [])
+    ∷ within plain 0 32 [] [] [] (refuses 1 alone)
     ∷ []
 
--- one theorem over the reading's definition for both lists
-pub rows-hold : All starred × All more
-unfolding expectedBy beAt bytesOf signed unsigned integerRows rowsOf rowOf valueBy numberBy readBy formBy spell bytes bytesBy spelling bitLength counts callIndex entryOf biased callee offset byLast bySize byCount extent absent placeBy placeIn place partBytes part entriesFrom formedBy formation plainKind escapedKind type2 countIn entryBy subrsOf listsOf escapedAt operatorAt cutBy cut struck tokensBy endsInOperand onNumber onStem onMask onEnd onEntry onIndex onCall onOperator onCut step resume after tokensOf read reading spelled flat verdictBy placed outcome listGate flattening
-rows-hold = ((refl, (refl, (refl, (refl, (refl, (refl, (refl, (refl, (refl, (refl, (refl, (refl, (refl, (refl, (refl, tt))))))))))))))), (refl, (refl, (refl, (refl, (refl, (refl, (refl, (refl, (refl, (refl, tt)))))))))))
+-- plain, without a level below the charstring
+abbrev shallow : Rules
+shallow = record { operands = 48; levels = 0; hints = 65535; exact = false; width = 2; kind = type2 }
+
+-- an operand in front of a mask whose length is fixed, and a call behind it: the index does not stand last
+abbrev behindMask : List ℕ → List ℕ
+behindMask index = 0x8B ∷ 0x8C ∷ 0x01 ∷ 0x13 ∷ 0x80 ∷ (index ++ (0x13 ∷ 0x80 ∷ 0x0A ∷ []))
+
+abbrev fullStem : List ℕ
+fullStem = replicate 48 0x8B ++ (0x01 ∷ [])
+
+-- two refusals compete, and the first in order comes
+abbrev pub competing : List Row
+competing =
+    -- 4 before 5, and 5 for a call's index
+    row (replicate 48 0x8B ++ (0x20 ∷ [])) L (refuses 5 (atToken 49))
+    ∷ row (replicate 48 0x8B ++ (0x1C ∷ 0x00 ∷ [])) none (refuses 4 (atToken 49))
+    -- 7 before 9 and 8; 9 before 8
+    ∷ row (behindMask (0xFF ∷ 0x00 ∷ 0x00 ∷ 0x80 ∷ 0x00 ∷ [])) L (refuses 7 (atToken 7))
+    ∷ row (behindMask (0x8B ∷ [])) L (refuses 9 (atToken 7))
+    -- 9 before 10; 10 before 8
+    ∷ within shallow 1000 32 (0x8B ∷ 0x0A ∷ []) none L (refuses 9 (atToken 2))
+    ∷ within shallow 1000 32 (behindMask (0x20 ∷ [])) none L (refuses 10 (atToken 7))
+    -- strict: 11 before 4 at a mask
+    ∷ within strict 1000 32 (fullStem ++ (fullStem ++ (fullStem ++ (fullStem ++ (0x8B ∷ 0x8B ∷ 0x13 ∷ []))))) none none (refuses 11 (atToken 199))
+    -- 3 before any of them
+    ∷ within plain 48 32 (replicate 48 0x8B ++ (0x1C ∷ 0x00 ∷ [])) none none (refuses 3 (atToken 48))
+    ∷ []
+
+-- one theorem over the reading's definition for all three lists
+pub rows-hold : All starred × All more × All competing
+unfolding expectedBy into readyBy outcome listGate flattening
+  beAt bytesOf signed unsigned integerRows rowsOf rowOf valueBy numberBy readBy formBy spell bytes bytesBy spelling bitLength counts callIndex entryOf biased callee
+  offset byLast bySize byCount extent absent placeBy placeIn place partBytes part entriesFrom formedBy formation
+  byteKind escapedKind type2 countIn entryBy subrsOf listsOf escapedAt operatorAt cutBy cut
+  struck tokensBy endsInOperand admitted onNumber onStem onMask onEnd onEntry onIndex onCall onOperator onCut onToken resume after tokensOf read reading spelled flat
+rows-hold = (
+  (refl, (refl, (refl, (refl, (refl, (refl, (refl, (refl, (refl, (refl, (refl, (refl, (refl, (refl, (refl, tt))))))))))))))),
+  (refl, (refl, (refl, (refl, (refl, (refl, (refl, (refl, (refl, (refl, tt)))))))))),
+  (refl, (refl, (refl, (refl, (refl, (refl, (refl, (refl, tt)))))))),
+)
+
+-- an entry that is absent, which no well-formed list has, is 9 also where no level is left and the index does not stand last
+pub absent-first : (levels : ℕ) (last : Bool) → admitted {A = List ℕ} levels last absent-entry ≡ refused 9 alone
+unfolding admitted
+absent-first levels last = refl

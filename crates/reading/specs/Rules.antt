@@ -4,6 +4,8 @@ use Prim.Native.Nat.{ℕ}
 use mathlib.Core.Bool.{Bool, true, false, cond, _||_}
 use mathlib.Core.List.{List, [], _∷_}
 use lib.Dec.{eqb}
+use Rattle.index.specs.Index.{widthOf}
+use Rattle.reading.specs.declared.Rules.{Rules as CodeRules}
 use Rattle.reading.specs.declared.Operator.{Operator}
 use Rattle.reading.specs.declared.Which.the-variants.{Local, Global}
 use Rattle.reading.specs.declared.Kind.{Kind}
@@ -13,10 +15,11 @@ use Rattle.reading.specs.declared.Profile.the-variants.{Plain, Strict}
 
 pub record Rules : Type 0 where
   pub operands : ℕ  -- how many may wait on the stack
-  pub depth : ℕ  -- how deep calls may go; the charstring itself is at depth 1
+  pub levels : ℕ  -- how many levels of calls there may be below the charstring, which is itself at depth 1
   pub hints : ℕ  -- how many stem hints there may be
   pub exact : Bool  -- whether a Fixed index must be whole exactly, or as f32 rounds it
-  pub kind : Operator → Kind
+  pub width : ℕ  -- how many bytes the count of a list has
+  pub kind : Operator → Kind  -- what an operator is
 
 abbrev pub among : ℕ → List ℕ → Bool
 among b [] = false
@@ -27,8 +30,8 @@ abbrev pub clearing : List ℕ
 clearing = 4 ∷ 5 ∷ 6 ∷ 7 ∷ 8 ∷ 21 ∷ 22 ∷ 24 ∷ 25 ∷ 26 ∷ 27 ∷ 30 ∷ 31 ∷ []
 
 -- operators of one byte
-unfoldable pub plainKind : ℕ → Kind
-plainKind b =
+unfoldable pub byteKind : ℕ → Kind
+byteKind b =
     cond (among b (1 ∷ 3 ∷ 18 ∷ 23 ∷ [])) Stem
     (cond (among b clearing) Clear
     (cond (among b (19 ∷ 20 ∷ [])) Mask
@@ -42,15 +45,20 @@ unfoldable pub escapedKind : ℕ → Kind
 escapedKind b = cond (among b (34 ∷ 35 ∷ 36 ∷ 37 ∷ [])) Clear Unknown
 
 unfoldable pub type2 : Operator → Kind
-type2 p = cond (p .escaped) (escapedKind (p .byte)) (plainKind (p .byte))
+type2 p = cond (p .escaped) (escapedKind (p .byte)) (byteKind (p .byte))
 
 abbrev pub plain : Rules
-plain = record { operands = 48; depth = 64; hints = 65535; exact = false; kind = type2 }
+plain = record { operands = 48; levels = 63; hints = 65535; exact = false; width = 2; kind = type2 }
 
 -- TN5177, appendix B: ten nested calls, and 96 stem hints
 abbrev pub strict : Rules
-strict = record { operands = 48; depth = 11; hints = 96; exact = true; kind = type2 }
+strict = record { operands = 48; levels = 10; hints = 96; exact = true; width = 2; kind = type2 }
 
 abbrev pub rulesOf : Profile → Rules
 rulesOf Plain = plain
 rulesOf Strict = strict
+
+-- the rules that the code's record stands for
+abbrev pub meant : CodeRules → Rules
+meant r =
+    record { operands = r .operands; levels = r .levels; hints = r .hints; exact = r .exact; width = widthOf (r .width); kind = type2 }

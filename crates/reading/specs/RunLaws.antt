@@ -11,12 +11,8 @@ use Rattle.reading.specs.Lists.{Lists}
 use Rattle.reading.specs.Tokens.{Token, number, operator, Cut, token, lacking, cut}
 use Rattle.reading.specs.CutLaws.{cut-fewer}
 use Rattle.reading.specs.Items.{atMask}
-use Rattle.reading.specs.Reading.{Entering, Shown, State, start, Ending, back, ended, stopped, Run, Step, halt, go, enter, step, resume, after, tokensOf, read, reading}
-use Rattle.reading.specs.StepLaws.{Begun, declines, goes, Goes, pushes, stems, clears, masks, enters, returns, ends, Stepped, spent, begun, step-is}
-
--- the state in which a caller goes on
-abbrev pub closed : State → State
-closed s = record { left = s .left; shown = s .shown; within = drop 1 (s .within) }
+use Rattle.reading.specs.Reading.{Entering, Shown, State, start, Ending, back, ended, stopped, Run, Step, halt, go, enter, closed, onToken, resume, after, tokensOf, read, reading}
+use Rattle.reading.specs.StepLaws.{Begun, declines, goes, Goes, pushes, stems, clears, masks, enters, returns, ends, Stepped, spent, begun, token-is}
 
 -- ---- an invariant
 
@@ -30,7 +26,7 @@ module _ (rules : Rules) (lists : Lists) (budget : ℕ) (Here : List ℕ → Typ
   pub record Kept : Type 0 where
     pub out : (s : State) → At s → Done back s
     pub on : (s : State) → Done back s → At (closed s)
-    pub one : (levels at b : ℕ) (bs : List ℕ) (s : State) → Here (b ∷ bs) → At s → Led levels (step rules lists levels at budget (b ∷ bs) s)
+    pub one : (levels at b : ℕ) (bs : List ℕ) (s : State) → Here (b ∷ bs) → At s → Led levels (onToken rules lists budget levels at (b ∷ bs) s)
 
   abbrev DoneBy : Run → Type 0
   DoneBy r = Done (r .how) (r .state)
@@ -60,7 +56,7 @@ module _ (rules : Rules) (lists : Lists) (budget : ℕ) (Here : List ℕ → Typ
     kept-tokens levels below g size (suc fuel) [] s h a = k .out s a
     kept-tokens levels below g size (suc fuel) (b ∷ bs) s h a =
         followed levels _ below (kept-tokens levels below g size fuel) g
-        (step rules lists levels (size - length (b ∷ bs)) budget (b ∷ bs) s) (k .one levels (size - length (b ∷ bs)) b bs s h a)
+        (onToken rules lists budget levels (size - length (b ∷ bs)) (b ∷ bs) s) (k .one levels (size - length (b ∷ bs)) b bs s h a)
 
     pub kept-read : (levels : ℕ) → Runs (read rules lists budget levels)
     unfolding read
@@ -69,7 +65,7 @@ module _ (rules : Rules) (lists : Lists) (budget : ℕ) (Here : List ℕ → Typ
 
     pub kept : (cs : List ℕ) → Here cs → At start → DoneBy (reading rules lists budget cs)
     unfolding reading
-    kept cs h a = kept-read (rules .depth - 1) cs start h a
+    kept cs h a = kept-read (rules .levels) cs start h a
 
 -- ---- fuel
 
@@ -90,7 +86,7 @@ module _ (rules : Rules) (lists : Lists) (levels at : ℕ) (bytes : List ℕ) (s
   fewer-begun x (goes y (returns p rest q k)) = tt
   fewer-begun x (goes y (ends p rest q k h)) = tt
 
-  fewer : (budget : ℕ) (x : Step) → Stepped rules lists levels at budget bytes s x → Fewer (length bytes) x
+  fewer : (budget : ℕ) (x : Step) → Stepped rules lists budget levels at bytes s x → Fewer (length bytes) x
   fewer budget x (spent h) = tt
   fewer budget x (begun y h b) = fewer-begun y b
 
@@ -120,4 +116,4 @@ module _ (rules : Rules) (lists : Lists) (budget levels : ℕ) (below : List ℕ
       let at = size - length (b ∷ bs) in
       rw suc-add
       (same-after _ _ (length (b ∷ bs)) (λ rest t l. fuel-enough size fuel more rest t (omega arith))
-      (step rules lists levels at budget (b ∷ bs) s) (fewer rules lists levels at (b ∷ bs) s budget _ (step-is rules lists levels at (b ∷ bs) s budget)))
+      (onToken rules lists budget levels at (b ∷ bs) s) (fewer rules lists levels at (b ∷ bs) s budget _ (token-is rules lists levels at (b ∷ bs) s budget)))

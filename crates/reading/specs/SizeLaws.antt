@@ -11,11 +11,11 @@ use Rattle.number.specs.Number.{charstringRows}
 use Rattle.number.specs.RoundTrip.{spelling-most}
 use Rattle.reading.specs.Rules.{Rules}
 use Rattle.reading.specs.Lists.{Lists}
-use Rattle.reading.specs.CutLaws.{Bytes}
-use Rattle.reading.specs.Items.{Item, operand, plainly, masked, Left, counted, atMask, byKind, leaves, leftBy}
+use Rattle.reading.specs.Tokens.{Bytes}
+use Rattle.reading.specs.Items.{Item, operand, bare, masked, Left, counted, atMask, byKind, leaves, leftBy}
 use Rattle.reading.specs.Reading.{Shown, item, call, return, struck, State, Ending, back, ended, stopped, reading}
 use Rattle.reading.specs.Flat.{operatorBytes, spelled, flat}
-use Rattle.reading.specs.ValidLaws.{Valid, none, number-behind, stem-behind, clear-behind, mask-behind, Whole, open-ended, end-behind, Ends, Plain, run-ends}
+use Rattle.reading.specs.ValidLaws.{Valid, none, number-behind, stem-behind, clear-behind, mask-behind, Whole, open-ended, end-behind, Ends, ByteLists, run-ends}
 use Rattle.reading.specs.declared.Operator.{Operator}
 use Rattle.reading.specs.declared.Kind.{Kind}
 use Rattle.reading.specs.declared.Kind.the-variants.{Stem, Clear, Mask, Call, Return, End, Unknown}
@@ -62,16 +62,16 @@ module _ (rules : Rules) where
       let e : longestItem rules * suc (length f) ≡ longestItem rules * length f + longestItem rules = mul-suc (longestItem rules) (length f) in
       omega (arith, length-append (flat f) (spelled i))
 
-  plainly-most : (p : Operator) → length (spelled (plainly p)) ≤ longestItem rules
+  bare-most : (p : Operator) → length (spelled (bare p)) ≤ longestItem rules
   unfolding spelled
-  plainly-most p = let h = operator-most p in omega arith
+  bare-most p = let h = operator-most p in omega arith
 
   pub valid-most : (f : List Item) → Valid rules f → length (flat f) ≤ longestItem rules * length f
   unfolding flat spelled
   valid-most f none = zero-le
   valid-most f (number-behind o g p l v) = more g (operand o) (valid-most g v) (let h = spelling-most false o in omega arith)
-  valid-most f (stem-behind p g c k l v) = more g (plainly p) (valid-most g v) (plainly-most p)
-  valid-most f (clear-behind p g c k v) = more g (plainly p) (valid-most g v) (plainly-most p)
+  valid-most f (stem-behind p g c k l v) = more g (bare p) (valid-most g v) (bare-most p)
+  valid-most f (clear-behind p g c k v) = more g (bare p) (valid-most g v) (bare-most p)
   valid-most f (mask-behind p m g c k l n v) =
       let h = operator-most p in
       let w = at-mask (leftBy rules g) (mask-most g v) l in
@@ -79,7 +79,7 @@ module _ (rules : Rules) where
 
   whole-most : (f : List Item) → Whole rules f → length (flat f) ≤ longestItem rules * length f
   whole-most f (open-ended g v) = valid-most g v
-  whole-most f (end-behind p g c k l v) = more g (plainly p) (valid-most g v) (plainly-most p)
+  whole-most f (end-behind p g c k l v) = more g (bare p) (valid-most g v) (bare-most p)
 
 -- striking out leaves no more items than tokens
 pub struck-fewer : (h : List Shown) → length (struck h) ≤ length h
@@ -89,7 +89,7 @@ struck-fewer (item i ∷ h) = let k = struck-fewer h in omega arith
 struck-fewer (call c ∷ h) = let k = struck-fewer h in omega (arith, length-drop 1 (struck h))
 struck-fewer (return ∷ h) = let k = struck-fewer h in omega arith
 
-module _ (rules : Rules) (lists : Lists) (budget : ℕ) (plain : Plain lists) where
+module _ (rules : Rules) (lists : Lists) (budget : ℕ) (entries : ByteLists lists) where
   pub ends-most : (e : Ending) (s : State) → Ends rules e s → length (flat (struck (s .shown))) ≤ longestItem rules * length (struck (s .shown))
   ends-most back s g = valid-most rules _ (g .valid)
   ends-most ended s g = whole-most rules _ (g .whole)
@@ -100,6 +100,6 @@ module _ (rules : Rules) (lists : Lists) (budget : ℕ) (plain : Plain lists) wh
       → length (flat (struck (reading rules lists budget cs .state .shown))) ≤ longestItem rules * length (reading rules lists budget cs .state .shown)
   flat-most cs h =
       let s = reading rules lists budget cs .state in
-      let m = ends-most (reading rules lists budget cs .how) s (run-ends rules lists budget plain cs h) in
+      let m = ends-most (reading rules lists budget cs .how) s (run-ends rules lists budget entries cs h) in
       let k = mul-le-mul {n₁ = longestItem rules} {m₁ = length (struck (s .shown))} {n₂ = longestItem rules} {m₂ = length (s .shown)} (le-refl (longestItem rules)) (struck-fewer (s .shown)) in
       omega arith

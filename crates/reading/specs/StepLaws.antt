@@ -1,5 +1,5 @@
--- One token, seen from its outcome: all that a step can lead to, with what holds there. Laws of the reading go by these cases, and not by the
--- text of `step`. Assumes nothing.
+-- One token, seen from its outcome: all that it can lead to, with what holds there. Laws of the reading go by these cases, and not by the
+-- text of `onToken`. Assumes nothing.
 use mathlib.Core.Path.{_≡_, refl, sym, ap, subst, _∙_}
 use mathlib.Core.Bool.{Bool, true, false, cond}
 use mathlib.Core.List.{List, [], _∷_}
@@ -9,15 +9,15 @@ use mathlib.Core.Logic.{_⊎_, inl, inr}
 use lib.Dec.{eqb, leb, ltb}
 use lib.ListN.{length, take, drop}
 use borrow.Author.Tests.{ltb-true, ltb-false, leb-true, eqb-false, lt-ltb, le-leb, ne-eqb}
-use Rattle.number.specs.Answer.{Answer, accepted, refused}
+use Rattle.number.specs.Answer.{Answer, accepted, refused, alone}
 use Rattle.number.specs.Call.{callee}
 use Rattle.number.specs.CallLaws.{callee-refusal}
 use Rattle.number.specs.declared.Operand.{Operand}
 use Rattle.reading.specs.Rules.{Rules}
 use Rattle.reading.specs.Lists.{Lists, Subrs, Entry, present, absent, listed}
 use Rattle.reading.specs.Tokens.{Token, number, operator, Cut, token, lacking, cut}
-use Rattle.reading.specs.Items.{Item, operand, plainly, masked, Left, pushed, popped, cleared, counted, atMask}
-use Rattle.reading.specs.Reading.{Entering, Shown, item, call, return, struck, State, Ending, back, ended, stopped, Step, halt, go, enter, refuse, shows, endsInOperand, onNumber, onStem, onMask, onEnd, onEntry, onIndex, onCall, onOperator, onCut, step}
+use Rattle.reading.specs.Items.{Item, operand, bare, masked, Left, pushed, popped, cleared, counted, atMask}
+use Rattle.reading.specs.Reading.{Entering, Shown, item, call, return, struck, State, Ending, back, ended, stopped, Step, halt, go, enter, refuse, shows, entered, returned, endsInOperand, admitted, onNumber, onStem, onMask, onEnd, onEntry, onIndex, onCall, onOperator, onCut, onToken}
 use Rattle.reading.specs.declared.Operator.{Operator}
 use Rattle.reading.specs.declared.Which.{Which}
 use Rattle.reading.specs.declared.Kind.{Kind}
@@ -28,9 +28,9 @@ pub data Goes (rules : Rules) (lists : Lists) (levels at : ℕ) (bytes : List �
   pushes : (o : Operand) (rest : List ℕ) → cut bytes ≡ token (number o) rest → length (s .left .operands) < rules .operands
       → Goes rules lists levels at bytes s (go rest (shows (operand o) (pushed o (s .left)) s))
   stems : (p : Operator) (rest : List ℕ) → cut bytes ≡ token (operator p) rest → rules .kind p ≡ Stem → counted (s .left) .hints ≤ rules .hints
-      → Goes rules lists levels at bytes s (go rest (shows (plainly p) (counted (s .left)) s))
+      → Goes rules lists levels at bytes s (go rest (shows (bare p) (counted (s .left)) s))
   clears : (p : Operator) (rest : List ℕ) → cut bytes ≡ token (operator p) rest → rules .kind p ≡ Clear
-      → Goes rules lists levels at bytes s (go rest (shows (plainly p) (cleared (s .left)) s))
+      → Goes rules lists levels at bytes s (go rest (shows (bare p) (cleared (s .left)) s))
   masks : (p : Operator) (rest : List ℕ) → cut bytes ≡ token (operator p) rest → rules .kind p ≡ Mask
       → atMask (s .left) .hints ≤ rules .hints → atMask (s .left) .mask ≤ length rest
       → Goes rules lists levels at bytes s
@@ -39,20 +39,20 @@ pub data Goes (rules : Rules) (lists : Lists) (levels at : ℕ) (bytes : List �
       → rules .kind p ≡ Call (c .list) → c .at ≡ at → s .left .operands ≡ c .index ∷ ops
       → callee (rules .exact) (listed lists (c .list) .count) (c .index) ≡ accepted (c .entry) → listed lists (c .list) .entry (c .entry) ≡ present body
       → (levels ≡ 0 → ⊥) → endsInOperand (struck (s .shown)) ≡ true
-      → Goes rules lists levels at bytes s (enter body rest (record { left = popped (s .left); shown = call c ∷ s .shown; within = c ∷ s .within }))
+      → Goes rules lists levels at bytes s (enter body rest (entered c s))
   returns : (p : Operator) (rest : List ℕ) → cut bytes ≡ token (operator p) rest → rules .kind p ≡ Return
-      → Goes rules lists levels at bytes s (halt back (record { left = s .left; shown = return ∷ s .shown; within = s .within }))
+      → Goes rules lists levels at bytes s (halt back (returned s))
   ends : (p : Operator) (rest : List ℕ) → cut bytes ≡ token (operator p) rest → rules .kind p ≡ End → length (s .left .operands) < 4
-      → Goes rules lists levels at bytes s (halt ended (shows (plainly p) (s .left) s))
+      → Goes rules lists levels at bytes s (halt ended (shows (bare p) (s .left) s))
 
 -- what a token that was begun leads to: it is refused, or taken
 pub data Begun (rules : Rules) (lists : Lists) (levels at : ℕ) (bytes : List ℕ) (s : State) : Step → Type 0 where
   declines : (n : ℕ) → (n ≡ 3 → ⊥) → Begun rules lists levels at bytes s (refuse n s)
   goes : (x : Step) → Goes rules lists levels at bytes s x → Begun rules lists levels at bytes s x
 
-pub data Stepped (rules : Rules) (lists : Lists) (levels at budget : ℕ) (bytes : List ℕ) (s : State) : Step → Type 0 where
-  spent : budget ≤ length (s .shown) → Stepped rules lists levels at budget bytes s (refuse 3 s)
-  begun : (x : Step) → length (s .shown) < budget → Begun rules lists levels at bytes s x → Stepped rules lists levels at budget bytes s x
+pub data Stepped (rules : Rules) (lists : Lists) (budget levels at : ℕ) (bytes : List ℕ) (s : State) : Step → Type 0 where
+  spent : budget ≤ length (s .shown) → Stepped rules lists budget levels at bytes s (refuse 3 s)
+  begun : (x : Step) → length (s .shown) < budget → Begun rules lists levels at bytes s x → Stepped rules lists budget levels at bytes s x
 
 -- ---- each step is one of these
 
@@ -90,15 +90,24 @@ module _ (rules : Rules) (lists : Lists) (levels at : ℕ) (bytes : List ℕ) (s
       view-end k = either (ltb (length (s .left .operands)) 4) _ _ (λ t. goes _ (ends p rest q k (ltb-true _ _ t))) (λ t. declines 12 (λ e. omega arith))
 
       module _ (which : Which) (k : rules .kind p ≡ Call which) (o : Operand) (ops : List Operand) (h : s .left .operands ≡ o ∷ ops) where
-        view-entry : (n : ℕ) → callee (rules .exact) (listed lists which .count) o ≡ accepted n → (e : Entry) → listed lists which .entry n ≡ e
-            → View (onEntry levels rest s (record { list = which; entry = n; at = at; index = o }) e)
-        unfolding onEntry
+        abbrev named : ℕ → Entering
+        named n = record { list = which; entry = n; at = at; index = o }
+
+        view-entry : (n : ℕ) → callee (rules .exact) (listed lists which .count) o ≡ accepted n → (e : Entry (List ℕ)) → listed lists which .entry n ≡ e
+            → View (onEntry rest s (named n) (admitted levels (endsInOperand (struck (s .shown))) e))
+        unfolding onEntry admitted
         view-entry n c absent f = declines 9 (λ e. omega arith)
-        view-entry n c (present body) f =
-            either (eqb levels 0) _ _ (λ t. declines 10 (λ e. omega arith))
-            (λ t. either (endsInOperand (struck (s .shown))) _ _
-            (λ u. goes _ (enters p rest (record { list = which; entry = n; at = at; index = o }) ops body q k refl h c f (eqb-false levels 0 t) u))
-            (λ u. declines 8 (λ e. omega arith)))
+        view-entry n c (present body) f = by-levels (eqb levels 0) refl
+          where
+            by-last : (u : Bool) → endsInOperand (struck (s .shown)) ≡ u → (levels ≡ 0 → ⊥)
+                → View (onEntry rest s (named n) (cond u (accepted body) (refused 8 alone)))
+            by-last true u l = goes _ (enters p rest (named n) ops body q k refl h c f l u)
+            by-last false u l = declines 8 (λ e. omega arith)
+
+            by-levels : (t : Bool) → eqb levels 0 ≡ t
+                → View (onEntry rest s (named n) (cond t (refused 10 alone) (cond (endsInOperand (struck (s .shown))) (accepted body) (refused 8 alone))))
+            by-levels true t = declines 10 (λ e. omega arith)
+            by-levels false t = by-last (endsInOperand (struck (s .shown))) refl (eqb-false levels 0 t)
 
         view-index : (a : Answer ℕ) → callee (rules .exact) (listed lists which .count) o ≡ a → View (onIndex levels rest s which (listed lists which) at o a)
         unfolding onIndex
@@ -127,20 +136,20 @@ module _ (rules : Rules) (lists : Lists) (levels at : ℕ) (bytes : List ℕ) (s
   view-cut (token (number o) rest) q = view-number rest o q
   view-cut (token (operator p) rest) q = view-operator rest p q (rules .kind p) refl
 
-  pub step-is : (budget : ℕ) → Stepped rules lists levels at budget bytes s (step rules lists levels at budget bytes s)
-  unfolding step
-  step-is budget = go-by (ltb (length (s .shown)) budget) refl
+  pub token-is : (budget : ℕ) → Stepped rules lists budget levels at bytes s (onToken rules lists budget levels at bytes s)
+  unfolding onToken
+  token-is budget = go-by (ltb (length (s .shown)) budget) refl
     where
       go-by : (t : Bool) → ltb (length (s .shown)) budget ≡ t
-          → Stepped rules lists levels at budget bytes s (cond t (onCut rules lists levels at s (cut bytes)) (refuse 3 s))
+          → Stepped rules lists budget levels at bytes s (cond t (onCut rules lists levels at s (cut bytes)) (refuse 3 s))
       go-by true t = begun _ (ltb-true _ _ t) (view-cut (cut bytes) refl)
       go-by false t = spent (ltb-false _ _ t)
 
 -- ---- and where a token is taken, the step is that one
 
-module _ (rules : Rules) (lists : Lists) (levels at budget : ℕ) (bytes : List ℕ) (s : State) (h : length (s .shown) < budget) where
-  begins : step rules lists levels at budget bytes s ≡ onCut rules lists levels at s (cut bytes)
-  unfolding step
+module _ (rules : Rules) (lists : Lists) (budget levels at : ℕ) (bytes : List ℕ) (s : State) (h : length (s .shown) < budget) where
+  begins : onToken rules lists budget levels at bytes s ≡ onCut rules lists levels at s (cut bytes)
+  unfolding onToken
   begins = rw (lt-ltb (length (s .shown)) budget h)
 
   on-operator : (p : Operator) (rest : List ℕ) (k : Kind) → cut bytes ≡ token (operator p) rest → rules .kind p ≡ k
@@ -158,11 +167,11 @@ module _ (rules : Rules) (lists : Lists) (levels at budget : ℕ) (bytes : List 
   number-taken o rest l = rw (lt-ltb (length (s .left .operands)) (rules .operands) l)
 
   module _ (p : Operator) (rest : List ℕ) where
-    stem-taken : counted (s .left) .hints ≤ rules .hints → onOperator rules lists levels at rest s p Stem ≡ go rest (shows (plainly p) (counted (s .left)) s)
+    stem-taken : counted (s .left) .hints ≤ rules .hints → onOperator rules lists levels at rest s p Stem ≡ go rest (shows (bare p) (counted (s .left)) s)
     unfolding onOperator onStem
     stem-taken l = rw (le-leb (counted (s .left) .hints) (rules .hints) l)
 
-    clear-taken : onOperator rules lists levels at rest s p Clear ≡ go rest (shows (plainly p) (cleared (s .left)) s)
+    clear-taken : onOperator rules lists levels at rest s p Clear ≡ go rest (shows (bare p) (cleared (s .left)) s)
     unfolding onOperator
     clear-taken = refl
 
@@ -171,11 +180,11 @@ module _ (rules : Rules) (lists : Lists) (levels at budget : ℕ) (bytes : List 
     unfolding onOperator onMask
     mask-taken l m = rw (le-leb (atMask (s .left) .hints) (rules .hints) l, le-leb (atMask (s .left) .mask) (length rest) m)
 
-    return-taken : onOperator rules lists levels at rest s p Return ≡ halt back (record { left = s .left; shown = return ∷ s .shown; within = s .within })
+    return-taken : onOperator rules lists levels at rest s p Return ≡ halt back (returned s)
     unfolding onOperator
     return-taken = refl
 
-    end-taken : length (s .left .operands) < 4 → onOperator rules lists levels at rest s p End ≡ halt ended (shows (plainly p) (s .left) s)
+    end-taken : length (s .left .operands) < 4 → onOperator rules lists levels at rest s p End ≡ halt ended (shows (bare p) (s .left) s)
     unfolding onOperator onEnd
     end-taken l = rw (lt-ltb (length (s .left .operands)) 4 l)
 
@@ -183,22 +192,19 @@ module _ (rules : Rules) (lists : Lists) (levels at budget : ℕ) (bytes : List 
         → callee (rules .exact) (listed lists (c .list) .count) (c .index) ≡ accepted (c .entry) → listed lists (c .list) .entry (c .entry) ≡ present body
         → (levels ≡ 0 → ⊥) → endsInOperand (struck (s .shown)) ≡ true
         → onOperator rules lists levels at rest s p (Call (c .list))
-        ≡ enter body rest (record { left = popped (s .left); shown = call c ∷ s .shown; within = c ∷ s .within })
-    unfolding onOperator onCall onIndex onEntry
+        ≡ enter body rest (entered c s)
+    unfolding onOperator onCall onIndex onEntry admitted
     call-taken c ops body a o e f l u =
         ap (onCall levels rest s (c .list) (listed lists (c .list)) at (rules .exact)) o ∙ index-taken ∙ entry-taken
       where
         here : Entering
         here = record { list = c .list; entry = c .entry; at = at; index = c .index }
 
-        index-taken : onCall levels rest s (c .list) (listed lists (c .list)) at (rules .exact) (c .index ∷ ops) ≡ onEntry levels rest s here (present body)
-        index-taken = rw (e, f)
+        index-taken : onCall levels rest s (c .list) (listed lists (c .list)) at (rules .exact) (c .index ∷ ops) ≡ enter body rest (entered here s)
+        index-taken = rw (e, f, ne-eqb levels 0 l, u)
 
-        same : here ≡ c
-        same = λ i. record { list = c .list; entry = c .entry; at = sym a i; index = c .index }
-
-        entry-taken : onEntry levels rest s here (present body) ≡ enter body rest (record { left = popped (s .left); shown = call c ∷ s .shown; within = c ∷ s .within })
-        entry-taken = rw (ne-eqb levels 0 l, u) (ap (λ (x : Entering). enter body rest (record { left = popped (s .left); shown = call x ∷ s .shown; within = x ∷ s .within })) same)
+        entry-taken : enter body rest (entered here s) ≡ enter body rest (entered c s)
+        entry-taken = λ i. enter body rest (entered (record { list = c .list; entry = c .entry; at = sym a i; index = c .index }) s)
 
   takes : (x : Step) → Goes rules lists levels at bytes s x → onCut rules lists levels at s (cut bytes) ≡ x
   takes x (pushes o rest q l) = on-number o rest q ∙ number-taken o rest l
@@ -209,5 +215,5 @@ module _ (rules : Rules) (lists : Lists) (levels at budget : ℕ) (bytes : List 
   takes x (returns p rest q k) = on-operator p rest Return q k ∙ return-taken p rest
   takes x (ends p rest q k l) = on-operator p rest End q k ∙ end-taken p rest l
 
-  pub step-goes : (x : Step) → Goes rules lists levels at bytes s x → step rules lists levels at budget bytes s ≡ x
-  step-goes x g = begins ∙ takes x g
+  pub token-goes : (x : Step) → Goes rules lists levels at bytes s x → onToken rules lists budget levels at bytes s ≡ x
+  token-goes x g = begins ∙ takes x g

@@ -17,11 +17,10 @@ use Rattle.reading.specs.Rules.{Rules}
 use Rattle.reading.specs.Lists.{Lists}
 use Rattle.reading.specs.Tokens.{Token, number, operator, Cut, token, lacking, cutBy, cut}
 use Rattle.reading.specs.CutLaws.{Cuttable}
-use Rattle.reading.specs.Items.{Item, operand, plainly, masked, Left, pushed, cleared, counted, atMask, byKind, leaves, leftBy}
-use Rattle.reading.specs.Reading.{Entering, Shown, item, call, return, struck, State, start, Ending, back, ended, stopped, Run, Step, halt, go, enter, shows, step, after, tokensOf, read, reading}
+use Rattle.reading.specs.Items.{Item, operand, bare, masked, Left, pushed, cleared, counted, atMask, byKind, leaves, leftBy}
+use Rattle.reading.specs.Reading.{Entering, Shown, item, call, return, struck, State, start, Ending, back, ended, stopped, Run, Step, halt, go, enter, shows, onToken, after, tokensOf, read, reading, Accepted}
 use Rattle.reading.specs.Flat.{operatorBytes, spelled, flat, Straight, isMask, shownBehind, behind, straightFrom, straight}
-use Rattle.reading.specs.StepLaws.{Goes, pushes, stems, clears, masks, ends, step-goes}
-use Rattle.reading.specs.BudgetLaws.{Accepted}
+use Rattle.reading.specs.StepLaws.{Goes, pushes, stems, clears, masks, ends, token-goes}
 use Rattle.reading.specs.ValidLaws.{Valid, none, number-behind, stem-behind, clear-behind, mask-behind, Whole, open-ended, end-behind}
 use Rattle.reading.specs.declared.Operator.{Operator}
 use Rattle.reading.specs.declared.Kind.{Kind}
@@ -62,12 +61,12 @@ module _ (rules : Rules) where
       ∙ ap (behind rules _ f _) (number-cut o p z)
 
   not-mask : (k : Kind) → isMask k ≡ false → (p : Operator) → rules .kind p ≡ k → (f : List Item) (z : List ℕ)
-      → shownBehind rules f p z ≡ record { items = plainly p ∷ f; rest = z }
+      → shownBehind rules f p z ≡ record { items = bare p ∷ f; rest = z }
   not-mask k h p e f z = rw (e, h)
 
-  plainly-back : (f : List Item) (p : Operator) → Cuttable p → (k : Kind) → rules .kind p ≡ k → isMask k ≡ false → OneBack f (plainly p)
+  bare-back : (f : List Item) (p : Operator) → Cuttable p → (k : Kind) → rules .kind p ≡ k → isMask k ≡ false → OneBack f (bare p)
   unfolding spelled behind
-  plainly-back f p c k e h fuel z =
+  bare-back f p c k e h fuel z =
       straight-step fuel f _ (some (operatorBytes p) z (operator-some p))
       ∙ ap (behind rules _ f _) (c z)
       ∙ ap (λ (x : Straight). straightFrom rules fuel (x .items) (x .rest)) (not-mask k h p e f z)
@@ -100,13 +99,13 @@ module _ (rules : Rules) where
   unfolding flat
   valid-straight f none fuel z = ap (λ (m : ℕ). straightFrom rules m [] z) (add-zero fuel)
   valid-straight f (number-behind o g p l v) fuel z = back-behind g (operand o) (valid-straight g v) (number-back g o p) fuel z
-  valid-straight f (stem-behind p g c k l v) fuel z = back-behind g (plainly p) (valid-straight g v) (plainly-back g p c Stem k refl) fuel z
-  valid-straight f (clear-behind p g c k v) fuel z = back-behind g (plainly p) (valid-straight g v) (plainly-back g p c Clear k refl) fuel z
+  valid-straight f (stem-behind p g c k l v) fuel z = back-behind g (bare p) (valid-straight g v) (bare-back g p c Stem k refl) fuel z
+  valid-straight f (clear-behind p g c k v) fuel z = back-behind g (bare p) (valid-straight g v) (bare-back g p c Clear k refl) fuel z
   valid-straight f (mask-behind p m g c k l n v) fuel z = back-behind g (masked p m) (valid-straight g v) (mask-back g p m c k n) fuel z
 
   whole-straight : (f : List Item) → Whole rules f → AllBack f
   whole-straight f (open-ended g v) = valid-straight g v
-  whole-straight f (end-behind p g c k l v) = back-behind g (plainly p) (valid-straight g v) (plainly-back g p c End k refl)
+  whole-straight f (end-behind p g c k l v) = back-behind g (bare p) (valid-straight g v) (bare-back g p c End k refl)
 
   -- each item has a byte at least
   item-some : (f : List Item) (i : Item) → length f ≤ length (flat f) → 0 < length (spelled i) → length (i ∷ f) ≤ length (flat (i ∷ f))
@@ -117,14 +116,14 @@ module _ (rules : Rules) where
   unfolding spelled flat
   valid-fewer f none = zero-le
   valid-fewer f (number-behind o g p l v) = item-some g (operand o) (valid-fewer g v) (spelling-some false o p)
-  valid-fewer f (stem-behind p g c k l v) = item-some g (plainly p) (valid-fewer g v) (operator-some p)
-  valid-fewer f (clear-behind p g c k v) = item-some g (plainly p) (valid-fewer g v) (operator-some p)
+  valid-fewer f (stem-behind p g c k l v) = item-some g (bare p) (valid-fewer g v) (operator-some p)
+  valid-fewer f (clear-behind p g c k v) = item-some g (bare p) (valid-fewer g v) (operator-some p)
   valid-fewer f (mask-behind p m g c k l n v) = item-some g (masked p m) (valid-fewer g v) (some (operatorBytes p) m (operator-some p))
 
   whole-fewer : (f : List Item) → Whole rules f → length f ≤ length (flat f)
   unfolding spelled
   whole-fewer f (open-ended g v) = valid-fewer g v
-  whole-fewer f (end-behind p g c k l v) = item-some g (plainly p) (valid-fewer g v) (operator-some p)
+  whole-fewer f (end-behind p g c k l v) = item-some g (bare p) (valid-fewer g v) (operator-some p)
 
   nothing-left : (fuel : ℕ) (f : List Item) → straightFrom rules fuel f [] ≡ record { items = f; rest = [] }
   unfolding straightFrom
@@ -167,7 +166,7 @@ module _ (rules : Rules) where
     runs = tokensOf rules lists budget levels below size
 
     pub run-step : (fuel : ℕ) (bytes : List ℕ) (s : State) → 0 < length bytes
-        → runs (suc fuel) bytes s ≡ after (λ more t. runs fuel more t) below (step rules lists levels (size - length bytes) budget bytes s)
+        → runs (suc fuel) bytes s ≡ after (λ more t. runs fuel more t) below (onToken rules lists budget levels (size - length bytes) bytes s)
     unfolding tokensOf
     run-step fuel [] s h = absurd (omega arith)
     run-step fuel (b ∷ bs) s h = refl
@@ -186,7 +185,7 @@ module _ (rules : Rules) where
       unfolding after leftBy shownOf
       led i x fuel bytes z h e g =
           run-step fuel bytes (stateOf f) h
-          ∙ ap (after (λ more t. runs fuel more t) below) (step-goes rules lists levels (size - length bytes) budget bytes (stateOf f) begins _ g)
+          ∙ ap (after (λ more t. runs fuel more t) below) (token-goes rules lists budget levels (size - length bytes) bytes (stateOf f) begins _ g)
           ∙ ap (λ (y : Left). runs fuel z (record { left = y; shown = item i ∷ shownOf f; within = [] })) (sym e)
 
       number-again : (o : Operand) → Spellable false o → length (leftBy rules f .operands) < rules .operands → OneAgain f (operand o)
@@ -199,19 +198,19 @@ module _ (rules : Rules) where
         there : (z : List ℕ) → 0 < length (operatorBytes p ++ z)
         there z = some rules (operatorBytes p) z (operator-some p)
 
-        plainly-leaves : (k : Kind) → rules .kind p ≡ k → leaves rules (plainly p) (leftBy rules f) ≡ byKind k (leftBy rules f)
+        bare-leaves : (k : Kind) → rules .kind p ≡ k → leaves rules (bare p) (leftBy rules f) ≡ byKind k (leftBy rules f)
         unfolding leaves
-        plainly-leaves k e = ap (λ (y : Kind). byKind y (leftBy rules f)) e
+        bare-leaves k e = ap (λ (y : Kind). byKind y (leftBy rules f)) e
 
-        stem-again : rules .kind p ≡ Stem → counted (leftBy rules f) .hints ≤ rules .hints → OneAgain f (plainly p)
+        stem-again : rules .kind p ≡ Stem → counted (leftBy rules f) .hints ≤ rules .hints → OneAgain f (bare p)
         unfolding spelled byKind
         stem-again k l fuel z =
-            led (plainly p) (counted (leftBy rules f)) fuel (operatorBytes p ++ z) z (there z) (plainly-leaves Stem k) (stems p z (c z) k l)
+            led (bare p) (counted (leftBy rules f)) fuel (operatorBytes p ++ z) z (there z) (bare-leaves Stem k) (stems p z (c z) k l)
 
-        clear-again : rules .kind p ≡ Clear → OneAgain f (plainly p)
+        clear-again : rules .kind p ≡ Clear → OneAgain f (bare p)
         unfolding spelled byKind
         clear-again k fuel z =
-            led (plainly p) (cleared (leftBy rules f)) fuel (operatorBytes p ++ z) z (there z) (plainly-leaves Clear k) (clears p z (c z) k)
+            led (bare p) (cleared (leftBy rules f)) fuel (operatorBytes p ++ z) z (there z) (bare-leaves Clear k) (clears p z (c z) k)
 
         mask-again : (m : List ℕ) → rules .kind p ≡ Mask → atMask (leftBy rules f) .hints ≤ rules .hints → length m ≡ atMask (leftBy rules f) .mask
             → OneAgain f (masked p m)
@@ -244,9 +243,9 @@ module _ (rules : Rules) where
     valid-again f (number-behind o g p l v) h fuel z =
         again-behind g (operand o) (valid-again g v (omega arith)) (number-again g h o p l) fuel z
     valid-again f (stem-behind p g c k l v) h fuel z =
-        again-behind g (plainly p) (valid-again g v (omega arith)) (stem-again g h p c k l) fuel z
+        again-behind g (bare p) (valid-again g v (omega arith)) (stem-again g h p c k l) fuel z
     valid-again f (clear-behind p g c k v) h fuel z =
-        again-behind g (plainly p) (valid-again g v (omega arith)) (clear-again g h p c k) fuel z
+        again-behind g (bare p) (valid-again g v (omega arith)) (clear-again g h p c k) fuel z
     valid-again f (mask-behind p m g c k l n v) h fuel z =
         again-behind g (masked p m) (valid-again g v (omega arith)) (mask-again g h p c m k l n) fuel z
 
@@ -258,12 +257,12 @@ module _ (rules : Rules) where
     -- an endchar behind valid items ends everything
     end-again : (f : List Item) (p : Operator) → Cuttable p → rules .kind p ≡ End → length (leftBy rules f .operands) < 4 → length f < budget → (fuel : ℕ)
         → runs (suc fuel) (operatorBytes p ++ []) (stateOf f)
-        ≡ record { how = ended; state = record { left = leftBy rules f; shown = item (plainly p) ∷ shownOf f; within = [] } }
+        ≡ record { how = ended; state = record { left = leftBy rules f; shown = item (bare p) ∷ shownOf f; within = [] } }
     unfolding after
     end-again f p c k l h fuel =
         let bytes = operatorBytes p ++ [] in
         run-step fuel bytes (stateOf f) (there f h p c [])
-        ∙ ap (after (λ more t. runs fuel more t) below) (step-goes rules lists levels (size - length bytes) budget bytes (stateOf f) (begins f h) _ (ends p [] (c []) k l))
+        ∙ ap (after (λ more t. runs fuel more t) below) (token-goes rules lists budget levels (size - length bytes) bytes (stateOf f) (begins f h) _ (ends p [] (c []) k l))
 
 -- What a run that read just the items f gives: it is accepted, and has shown them and nothing else.
 pub record Just (f : List Item) (r : Run) : Type 0 where
@@ -284,19 +283,19 @@ module _ (rules : Rules) (lists : Lists) (budget levels : ℕ) (below : List ℕ
       subst (Just f) (sym e) (record { accepted = tt; shown = refl })
   whole-again f (end-behind p g c k l v) h size =
       let bytes = flat g ++ operatorBytes p in
-      let w = item-some rules g (plainly p) (valid-fewer rules g v) (operator-some p) in
+      let w = item-some rules g (bare p) (valid-fewer rules g v) (operator-some p) in
       let more = length bytes - suc (length g) in
       let n : length bytes ≡ suc more + length g = omega (arith, suc-add more (length g)) in
       let e = ap (λ (m : ℕ). tokensOf rules lists budget levels below size m bytes start) n
       ∙ ap (λ (b : List ℕ). tokensOf rules lists budget levels below size (suc more + length g) (flat g ++ b) start) (sym (append-nil (operatorBytes p)))
       ∙ valid-again rules lists budget levels below size g v (omega arith) (suc more) (operatorBytes p ++ [])
       ∙ end-again rules lists budget levels below size g p c k l h more in
-      subst (Just (plainly p ∷ g)) (sym e) (record { accepted = tt; shown = refl })
+      subst (Just (bare p ∷ g)) (sym e) (record { accepted = tt; shown = refl })
 
 -- the bytes of the items, read as a charstring with any lists
 pub read-again : (rules : Rules) (lists : Lists) (budget : ℕ) (f : List Item) → Whole rules f → length f ≤ budget → Just f (reading rules lists budget (flat f))
 unfolding reading read
-read-again rules lists budget f w h = go (rules .depth - 1)
+read-again rules lists budget f w h = go (rules .levels)
   where
     go : (levels : ℕ) → Just f (read rules lists budget levels (flat f) start)
     go zero = whole-again rules lists budget zero _ f w h (length (flat f))

@@ -14,21 +14,22 @@ use Rattle.number.specs.CallLaws.{exact-callee}
 use Rattle.number.specs.declared.Operand.{Operand}
 use Rattle.reading.specs.Rules.{Rules, plain, strict}
 use Rattle.reading.specs.Lists.{Lists, listed}
-use Rattle.reading.specs.Reading.{State, start, Ending, back, ended, stopped, Run, Step, halt, go, enter, step, resume, after, tokensOf, read, reading}
-use Rattle.reading.specs.StepLaws.{Begun, declines, goes, Goes, pushes, stems, clears, masks, enters, returns, ends, Stepped, spent, begun, step-is, step-goes}
-use Rattle.reading.specs.BudgetLaws.{Accepted, never-accepted, Entered}
+use Rattle.reading.specs.Reading.{State, start, Ending, back, ended, stopped, Run, Step, halt, go, enter, onToken, resume, after, tokensOf, read, reading, Accepted}
+use Rattle.reading.specs.StepLaws.{Begun, declines, goes, Goes, pushes, stems, clears, masks, enters, returns, ends, Stepped, spent, begun, token-is, token-goes}
+use Rattle.reading.specs.BudgetLaws.{never-accepted, Entered}
 use Rattle.reading.specs.declared.Operator.{Operator}
 
 pub record Tighter (a b : Rules) : Type 0 where
   pub operands : a .operands ≤ b .operands
-  pub depth : a .depth ≤ b .depth
+  pub levels : a .levels ≤ b .levels
   pub hints : a .hints ≤ b .hints
   pub exact : b .exact ≡ true → a .exact ≡ true
+  pub width : a .width ≡ b .width
   pub kind : (p : Operator) → a .kind p ≡ b .kind p
 
 -- strict and plain differ in nothing else
 pub strict-tighter : Tighter strict plain
-strict-tighter = record { operands = le-refl 48; depth = lit≤ tt; hints = lit≤ tt; exact = λ e. refl; kind = λ p. refl }
+strict-tighter = record { operands = le-refl 48; levels = lit≤ tt; hints = lit≤ tt; exact = λ e. refl; width = refl; kind = λ p. refl }
 
 loose-callee : (t u : Bool) → (u ≡ true → t ≡ true) → (n : ℕ) (o : Operand) (k : ℕ) → callee t n o ≡ accepted k → callee u n o ≡ accepted k
 loose-callee true true h n o k e = e
@@ -79,13 +80,13 @@ module _ (a b : Rules) (t : Tighter a b) (lists : Lists) (budget : ℕ) where
               ap (λ (x : Run). resume (on′ rest) x (x .how)) r ∙ ap (λ (e : Ending). resume (on′ rest) (below body z) e) h
           by-end (stopped k) h c = never-accepted (below body z .how) k h c
 
-      by-view : (x : Step) → Stepped a lists levels at budget bytes s x → Accepted (after on below x .how)
-          → after on′ below′ (step b lists levels′ at budget bytes s) ≡ after on below x
+      by-view : (x : Step) → Stepped a lists budget levels at bytes s x → Accepted (after on below x .how)
+          → after on′ below′ (onToken b lists budget levels′ at bytes s) ≡ after on below x
       unfolding after
       by-view x (spent h) c = absurd c
       by-view x (begun y h (declines n k)) c = absurd c
       by-view x (begun y h (goes z v)) c =
-          ap (after on′ below′) (step-goes b lists levels′ at budget bytes s h z (taken z v)) ∙ followed z (entered z v) c
+          ap (after on′ below′) (token-goes b lists budget levels′ at bytes s h z (taken z v)) ∙ followed z (entered z v) c
 
   tokens-follow : (levels levels′ : ℕ) → levels ≤ levels′ → (below below′ : List ℕ → State → Run) → ((levels ≡ 0 → ⊥) → Follows below below′)
       → (size fuel : ℕ) → Follows (tokensOf a lists budget levels below size fuel) (tokensOf b lists budget levels′ below′ size fuel)
@@ -95,7 +96,7 @@ module _ (a b : Rules) (t : Tighter a b) (lists : Lists) (budget : ℕ) where
   tokens-follow levels levels′ deep below below′ g size (suc fuel) (d ∷ ds) s c =
       let at = size - length (d ∷ ds) in
       by-view levels levels′ at deep (d ∷ ds) s _ _ below below′ (tokens-follow levels levels′ deep below below′ g size fuel) g
-      (step a lists levels at budget (d ∷ ds) s) (step-is a lists levels at (d ∷ ds) s budget) c
+      (onToken a lists budget levels at (d ∷ ds) s) (token-is a lists levels at (d ∷ ds) s budget) c
 
   read-follow : (levels levels′ : ℕ) → levels ≤ levels′ → Follows (read a lists budget levels) (read b lists budget levels′)
   unfolding read
@@ -107,7 +108,7 @@ module _ (a b : Rules) (t : Tighter a b) (lists : Lists) (budget : ℕ) where
   -- where the tighter rules accept, the others give the same run: the same tokens shown, and so the same bytes
   pub tighter-reading : (cs : List ℕ) → Accepted (reading a lists budget cs .how) → reading b lists budget cs ≡ reading a lists budget cs
   unfolding reading
-  tighter-reading cs c = read-follow (a .depth - 1) (b .depth - 1) (let h = t .depth in omega arith) cs start c
+  tighter-reading cs c = read-follow (a .levels) (b .levels) (t .levels) cs start c
 
 pub strict-plain : (lists : Lists) (budget : ℕ) (cs : List ℕ) → Accepted (reading strict lists budget cs .how)
     → reading plain lists budget cs ≡ reading strict lists budget cs

@@ -1,13 +1,17 @@
 -- Bytes cut into tokens: a number, or an operator with its escape byte (TN5177, sections 3.1 and 3.2). What a mask takes is not known here.
-use Prim.Native.Nat.{ℕ}
+use Prim.Native.Nat.{ℕ, _<_}
 use mathlib.Core.Bool.{Bool, true, false, cond}
 use mathlib.Core.List.{List, [], _∷_}
-use lib.ListN.{drop}
+use lib.ListN.{getD, drop}
 use lib.Dec.{eqb}
 use Rattle.number.specs.Answer.{Answer, accepted, refused}
 use Rattle.number.specs.Number.{Number, charstringRows, readBy}
 use Rattle.number.specs.declared.Operand.{Operand}
 use Rattle.reading.specs.declared.Operator.{Operator}
+
+-- the numbers of a list are bytes
+abbrev pub Bytes : List ℕ → Type 0
+Bytes s = (i : ℕ) → getD s i 0 < 256
 
 pub data Token : Type 0 where
   number : Operand → Token

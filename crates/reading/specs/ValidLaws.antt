@@ -13,12 +13,12 @@ use Rattle.number.specs.RoundTrip.{Spellable, spelling-most}
 use Rattle.number.specs.declared.Operand.{Operand}
 use Rattle.reading.specs.Rules.{Rules}
 use Rattle.reading.specs.Lists.{Lists, Entry, present, absent, listed}
-use Rattle.reading.specs.Tokens.{Token, number, operator, token, cut}
-use Rattle.reading.specs.CutLaws.{Bytes, Cuttable, cut-off, bytes-drop}
-use Rattle.reading.specs.Items.{Item, operand, plainly, masked, Left, pushed, popped, cleared, counted, atMask, byKind, leaves, leftBy}
-use Rattle.reading.specs.Reading.{Entering, Shown, item, call, return, struck, State, start, Ending, back, ended, stopped, Run, Step, halt, go, enter, endsInOperand, step, reading}
-use Rattle.reading.specs.StepLaws.{Begun, declines, goes, Goes, pushes, stems, clears, masks, enters, returns, ends, Stepped, spent, begun, step-is}
-use Rattle.reading.specs.RunLaws.{closed, Led, Kept, kept}
+use Rattle.reading.specs.Tokens.{Token, number, operator, token, cut, Bytes}
+use Rattle.reading.specs.CutLaws.{Cuttable, cut-off, bytes-drop}
+use Rattle.reading.specs.Items.{Item, operand, bare, masked, Left, pushed, popped, cleared, counted, atMask, byKind, leaves, leftBy}
+use Rattle.reading.specs.Reading.{Entering, Shown, item, call, return, struck, State, start, Ending, back, ended, stopped, Run, Step, halt, go, enter, endsInOperand, onToken, reading, closed}
+use Rattle.reading.specs.StepLaws.{Begun, declines, goes, Goes, pushes, stems, clears, masks, enters, returns, ends, Stepped, spent, begun, token-is}
+use Rattle.reading.specs.RunLaws.{Led, Kept, kept}
 use Rattle.reading.specs.declared.Operator.{Operator}
 use Rattle.reading.specs.declared.Which.{Which}
 use Rattle.reading.specs.declared.Kind.{Kind}
@@ -31,8 +31,8 @@ pub data Valid (rules : Rules) : List Item → Type 0 where
   number-behind : (o : Operand) (f : List Item) → Spellable false o → length (leftBy rules f .operands) < rules .operands → Valid rules f
       → Valid rules (operand o ∷ f)
   stem-behind : (p : Operator) (f : List Item) → Cuttable p → rules .kind p ≡ Stem → counted (leftBy rules f) .hints ≤ rules .hints → Valid rules f
-      → Valid rules (plainly p ∷ f)
-  clear-behind : (p : Operator) (f : List Item) → Cuttable p → rules .kind p ≡ Clear → Valid rules f → Valid rules (plainly p ∷ f)
+      → Valid rules (bare p ∷ f)
+  clear-behind : (p : Operator) (f : List Item) → Cuttable p → rules .kind p ≡ Clear → Valid rules f → Valid rules (bare p ∷ f)
   mask-behind : (p : Operator) (m : List ℕ) (f : List Item) → Cuttable p → rules .kind p ≡ Mask → atMask (leftBy rules f) .hints ≤ rules .hints
       → length m ≡ atMask (leftBy rules f) .mask → Valid rules f → Valid rules (masked p m ∷ f)
 
@@ -40,7 +40,7 @@ pub data Valid (rules : Rules) : List Item → Type 0 where
 pub data Whole (rules : Rules) : List Item → Type 0 where
   open-ended : (f : List Item) → Valid rules f → Whole rules f
   end-behind : (p : Operator) (f : List Item) → Cuttable p → rules .kind p ≡ End → length (leftBy rules f .operands) < 4 → Valid rules f
-      → Whole rules (plainly p ∷ f)
+      → Whole rules (bare p ∷ f)
 
 -- each call struck out the operand that it took
 abbrev pub Taken : List Shown → Type 0
@@ -72,9 +72,9 @@ module _ (rules : Rules) (s : State) (g : Good rules s) where
   unfolding struck leftBy
   shown-good i x e v = record { agree = ap (leaves rules i) (g .agree) ∙ e; valid = v; taken = g .taken }
 
-  leaves-plainly : (p : Operator) (k : Kind) → rules .kind p ≡ k → leaves rules (plainly p) (s .left) ≡ byKind k (s .left)
+  leaves-bare : (p : Operator) (k : Kind) → rules .kind p ≡ k → leaves rules (bare p) (s .left) ≡ byKind k (s .left)
   unfolding leaves
-  leaves-plainly p k e = ap (λ (y : Kind). byKind y (s .left)) e
+  leaves-bare p k e = ap (λ (y : Kind). byKind y (s .left)) e
 
   module _ (o : Operand) where
     number-good : Spellable false o → length (s .left .operands) < rules .operands
@@ -86,15 +86,15 @@ module _ (rules : Rules) (s : State) (g : Good rules s) where
 
   module _ (p : Operator) (c : Cuttable p) where
     stem-good : rules .kind p ≡ Stem → counted (s .left) .hints ≤ rules .hints
-        → Good rules (record { left = counted (s .left); shown = item (plainly p) ∷ s .shown; within = s .within })
+        → Good rules (record { left = counted (s .left); shown = item (bare p) ∷ s .shown; within = s .within })
     unfolding byKind
     stem-good k l =
-        shown-good (plainly p) (counted (s .left)) (leaves-plainly p Stem k)
+        shown-good (bare p) (counted (s .left)) (leaves-bare p Stem k)
         (stem-behind p (struck (s .shown)) c k (subst (λ (x : Left). counted x .hints ≤ rules .hints) (sym (g .agree)) l) (g .valid))
 
-    clear-good : rules .kind p ≡ Clear → Good rules (record { left = cleared (s .left); shown = item (plainly p) ∷ s .shown; within = s .within })
+    clear-good : rules .kind p ≡ Clear → Good rules (record { left = cleared (s .left); shown = item (bare p) ∷ s .shown; within = s .within })
     unfolding byKind
-    clear-good k = shown-good (plainly p) (cleared (s .left)) (leaves-plainly p Clear k) (clear-behind p (struck (s .shown)) c k (g .valid))
+    clear-good k = shown-good (bare p) (cleared (s .left)) (leaves-bare p Clear k) (clear-behind p (struck (s .shown)) c k (g .valid))
 
     mask-good : (m : List ℕ) → rules .kind p ≡ Mask → atMask (s .left) .hints ≤ rules .hints → length m ≡ atMask (s .left) .mask
         → Good rules (record { left = atMask (s .left); shown = item (masked p m) ∷ s .shown; within = s .within })
@@ -105,7 +105,7 @@ module _ (rules : Rules) (s : State) (g : Good rules s) where
         (subst (λ (x : Left). length m ≡ atMask x .mask) (sym (g .agree)) n) (g .valid))
 
     end-good : rules .kind p ≡ End → length (s .left .operands) < 4
-        → Ended rules (record { left = s .left; shown = item (plainly p) ∷ s .shown; within = s .within })
+        → Ended rules (record { left = s .left; shown = item (bare p) ∷ s .shown; within = s .within })
     unfolding struck
     end-good k l =
         record {
@@ -126,7 +126,7 @@ module _ (rules : Rules) (x : Left) (c : Entering) (ops : List Operand) (h : x .
       let top : o ∷ leftBy rules f .operands ≡ c .index ∷ ops = ap (λ (y : Left). y .operands) e ∙ h in
       let same : o ≡ c .index = cc in
       ap (λ (y : Operand). operand y ∷ f) same
-  index-is-last (plainly p ∷ f) e t = let z : _≡_ {A = ℕ} 0 1 = cc in absurd (omega arith)
+  index-is-last (bare p ∷ f) e t = let z : _≡_ {A = ℕ} 0 1 = cc in absurd (omega arith)
   index-is-last (masked p m ∷ f) e t = let z : _≡_ {A = ℕ} 0 1 = cc in absurd (omega arith)
 
 left-popped : (rules : Rules) (o : Operand) (f : List Item) → leftBy rules f ≡ popped (leftBy rules (operand o ∷ f))
@@ -153,10 +153,10 @@ module _ (rules : Rules) (s : State) (g : Good rules s) (c : Entering) (ops : Li
 -- ---- it is kept
 
 -- the entries of both lists are bytes
-abbrev pub Plain : Lists → Type 0
-Plain lists = (which : Which) (k : ℕ) (body : List ℕ) → listed lists which .entry k ≡ present body → Bytes body
+abbrev pub ByteLists : Lists → Type 0
+ByteLists lists = (which : Which) (k : ℕ) (body : List ℕ) → listed lists which .entry k ≡ present body → Bytes body
 
-module _ (rules : Rules) (lists : Lists) (budget : ℕ) (plain : Plain lists) where
+module _ (rules : Rules) (lists : Lists) (budget : ℕ) (entries : ByteLists lists) where
   module _ (levels at : ℕ) (bytes : List ℕ) (s : State) (h : Bytes bytes) (g : Good rules s) where
     operator-cut : (p : Operator) (rest : List ℕ) → cut bytes ≡ token (operator p) rest → Cuttable p × Bytes rest
     operator-cut p rest q = let c = cut-off (operator p) rest bytes h q in (c .sound, c .behind)
@@ -170,11 +170,11 @@ module _ (rules : Rules) (lists : Lists) (budget : ℕ) (plain : Plain lists) wh
         let n = atMask (s .left) .mask in
         (bytes-drop n rest (c .1), mask-good rules s g p (c .0) (take n rest) k l (length-take-le n rest m))
     good-goes x (enters p rest c ops body q k a o e f l u) =
-        (l, (plain (c .list) (c .entry) body f, (operator-cut p rest q .1, call-good rules s g c ops o u)))
+        (l, (entries (c .list) (c .entry) body f, (operator-cut p rest q .1, call-good rules s g c ops o u)))
     good-goes x (returns p rest q k) = return-good rules s g
     good-goes x (ends p rest q k l) = end-good rules s g p (operator-cut p rest q .0) k l
 
-    good-step : (x : Step) → Stepped rules lists levels at budget bytes s x → Led rules lists budget Bytes (Good rules) (Ends rules) levels x
+    good-step : (x : Step) → Stepped rules lists budget levels at bytes s x → Led rules lists budget Bytes (Good rules) (Ends rules) levels x
     good-step x (spent l) = g
     good-step x (begun y l (declines n k)) = g
     good-step x (begun y l (goes z v)) = good-goes z v
@@ -184,7 +184,7 @@ module _ (rules : Rules) (lists : Lists) (budget : ℕ) (plain : Plain lists) wh
       record {
         out = λ s g. g;
         on = λ s g. record { agree = g .agree; valid = g .valid; taken = g .taken };
-        one = λ levels at b bs s h g. good-step levels at (b ∷ bs) s h g _ (step-is rules lists levels at (b ∷ bs) s budget);
+        one = λ levels at b bs s h g. good-step levels at (b ∷ bs) s h g _ (token-is rules lists levels at (b ∷ bs) s budget);
       }
 
   start-good : Good rules start

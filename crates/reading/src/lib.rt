@@ -1,7 +1,10 @@
 // The words of the call-following reading, as the code above uses them: what an operator is, what
 // a profile is, and what flattening answers. The reading itself is a definition, in specs/.
+use index::Width;
 ghost use mathlib.Core.Path.{_≡_};
-ghost use Rattle.reading.specs.Answers.{numberOf};
+ghost use Rattle.number.specs.Answer.{numberIn};
+ghost use Rattle.reading.specs.Rules.{meant, rulesOf};
+ghost use Rattle.reading.specs.Answers.{numberOf, flattened};
 
 // An operator: whether it stands behind the escape byte 12, and its byte.
 pub struct Operator {
@@ -35,6 +38,42 @@ pub enum Kind {
 pub enum Profile {
     Plain,
     Strict,
+}
+
+// All that profiles differ in, as the code has it: the definition's `Rules`.
+pub struct Rules {
+    // How many operands may wait on the stack.
+    pub operands: usize,
+    // How many levels of calls there may be below the charstring.
+    pub levels: u32,
+    // How many stem hints there may be.
+    pub hints: usize,
+    // Whether a Fixed index must be whole exactly, or as f32 rounds it.
+    pub exact: bool,
+    // How many bytes the count of a list has.
+    pub width: Width,
+}
+
+// The rules of a profile.
+pub fn rules_of(profile: Profile) -> Rules
+    ensures { λ r. ⌜ meant r ≡ rulesOf profile ⌝ }
+{
+    match profile {
+        Profile::Plain => Rules {
+            operands: 48,
+            levels: 63,
+            hints: 65535,
+            exact: false,
+            width: Width::Two,
+        },
+        Profile::Strict => Rules {
+            operands: 48,
+            levels: 10,
+            hints: 96,
+            exact: true,
+            width: Width::Two,
+        },
+    }
 }
 
 // Why a run stopped: document 01's refusals 3 to 12.
@@ -81,4 +120,19 @@ pub enum Flattened {
     Refused(Refusal, u32),
     // The flat string has this length, which is more than the room; and the tokens.
     NoRoom(usize, u32),
+}
+
+impl Flattened {
+    // The number of the answer.
+    pub fn number(self) -> u32
+        ensures { λ r. ⌜ r ≡ numberIn (flattened self) ⌝ }
+    {
+        match self {
+            Flattened::Accepted(_, _) => 0,
+            Flattened::BadGlobals => 1,
+            Flattened::BadLocals => 2,
+            Flattened::Refused(why, _) => number_of(why),
+            Flattened::NoRoom(_, _) => 13,
+        }
+    }
 }

@@ -1,6 +1,6 @@
 use mathlib.Core.Path.{sym, ap}
 use borrow.Author.Needs.{needs}
-use Rattle.reading.specs.Rules.{plainKind}
+use Rattle.reading.specs.Rules.{byteKind}
 use Rattle.charstring.proofs.Operators.{unknown}
 use Rattle.charstring.proofs.operator.plain_kind.Statement.{statement}
 use Rattle.charstring.proofs.operator.plain_kind.Tie as tie
@@ -12,44 +12,44 @@ returns : tie.Need-returns
 returns c = c .before .clears .ensures .0 (search needs)
 
 returns-2 : tie.Need-returns-2
-unfolding plainKind
-returns-2 c = ap plainKind (sym (c .match .keys1))
+unfolding byteKind
+returns-2 c = ap byteKind (sym (c .match .keys1))
 
 returns-3 : tie.Need-returns-3
-unfolding plainKind
-returns-3 c = ap plainKind (sym (c .match .keys2))
+unfolding byteKind
+returns-3 c = ap byteKind (sym (c .match .keys2))
 
 returns-4 : tie.Need-returns-4
-unfolding plainKind
-returns-4 c = ap plainKind (sym (c .match .keys3))
+unfolding byteKind
+returns-4 c = ap byteKind (sym (c .match .keys3))
 
 returns-5 : tie.Need-returns-5
-unfolding plainKind
-returns-5 c = ap plainKind (sym (c .match .keys4))
+unfolding byteKind
+returns-5 c = ap byteKind (sym (c .match .keys4))
 
 returns-6 : tie.Need-returns-6
-unfolding plainKind
-returns-6 c = ap plainKind (sym (c .match .keys5))
+unfolding byteKind
+returns-6 c = ap byteKind (sym (c .match .keys5))
 
 returns-7 : tie.Need-returns-7
-unfolding plainKind
-returns-7 c = ap plainKind (sym (c .match .keys6))
+unfolding byteKind
+returns-7 c = ap byteKind (sym (c .match .keys6))
 
 returns-8 : tie.Need-returns-8
-unfolding plainKind
-returns-8 c = ap plainKind (sym (c .match .keys7))
+unfolding byteKind
+returns-8 c = ap byteKind (sym (c .match .keys7))
 
 returns-9 : tie.Need-returns-9
-unfolding plainKind
-returns-9 c = ap plainKind (sym (c .match .keys8))
+unfolding byteKind
+returns-9 c = ap byteKind (sym (c .match .keys8))
 
 returns-10 : tie.Need-returns-10
-unfolding plainKind
-returns-10 c = ap plainKind (sym (c .match .keys9))
+unfolding byteKind
+returns-10 c = ap byteKind (sym (c .match .keys9))
 
 returns-11 : tie.Need-returns-11
-unfolding plainKind
-returns-11 c = ap plainKind (sym (c .match .keys10))
+unfolding byteKind
+returns-11 c = ap byteKind (sym (c .match .keys10))
 
 returns-12 : tie.Need-returns-12
 returns-12 c =

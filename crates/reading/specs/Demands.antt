@@ -1,0 +1,98 @@
+-- What the demands say of an accepted flattening, as types: what a reader must believe. The proofs stand in DemandLaws.antt.
+-- F is what an accepted flattening leaves at the start of the room, and x its answer: F's length and the tokens, n.
+use Prim.Native.Nat.{ℕ, _<_, _≤_}
+use mathlib.Core.Path.{_≡_}
+use mathlib.Core.Bool.{Bool, true, false}
+use mathlib.Core.List.{List, [], _∷_, _++_}
+use lib.ListN.{length, take, drop, replicate}
+use Rattle.number.specs.Answer.{Answer, accepted, refused, atToken, leaving}
+use Rattle.reading.specs.Rules.{Rules, plain, strict}
+use Rattle.reading.specs.Tokens.{Bytes}
+use Rattle.reading.specs.Items.{Item, operand, bare, masked}
+use Rattle.reading.specs.Reading.{struck, original}
+use Rattle.reading.specs.Flat.{Straight, straight}
+use Rattle.reading.specs.Answers.{Flattening, flattening}
+use Rattle.reading.specs.Masks.{StemsFirst, ByNote}
+use Rattle.reading.specs.declared.Kind.{Kind}
+use Rattle.reading.specs.declared.Kind.the-variants.{Stem, Clear, Mask, Call, Return, End, Unknown}
+
+-- ---- no call and no return
+
+abbrev pub leads : Kind → Bool
+leads Stem = false
+leads Clear = false
+leads Mask = false
+leads (Call which) = true
+leads Return = true
+leads End = false
+leads Unknown = false
+
+abbrev pub operatorOf : Rules → Item → Bool
+operatorOf rules (operand o) = false
+operatorOf rules (bare p) = leads (rules .kind p)
+operatorOf rules (masked p m) = leads (rules .kind p)
+
+-- items among which there is no call and no return
+abbrev pub Flat : Rules → List Item → Type 0
+Flat rules [] = Unit {0}
+Flat rules (i ∷ f) = (operatorOf rules i ≡ false) × Flat rules f
+
+-- ---- demand 3
+
+-- the list without entries: a count of 0
+abbrev pub empty : Rules → List ℕ
+empty rules = replicate (rules .width) 0
+
+pub record SameGlyph (rules : Rules) (cs globals locals : List ℕ) (budget : ℕ) (x : Flattening) (F : List ℕ) : Type 0 where
+  -- F is as long as reported.
+  pub size : length F ≡ x .size
+  -- Read straight through, F shows exactly the operands, operators and mask bytes, in order, of the call-following reading of the original with
+  -- the calls, their index operands and the returns struck out; and every byte is consumed.
+  pub shows : straight rules F ≡ record { items = struck (original rules cs globals locals budget .state .shown); rest = [] }
+  -- F holds no call and no return.
+  pub flat-items : Flat rules (straight rules F .items)
+  -- Flattening F with two empty INDEXes, the same rules, a budget of n and room for F gives F back, byte for byte, in as many tokens as F has items.
+  pub again : (out : List ℕ) → x .size ≤ length out
+      → flattening rules F (empty rules) (empty rules) (x .tokens) out
+      ≡ leaving (accepted (record { size = x .size; tokens = length (straight rules F .items) })) (F ++ drop (x .size) out)
+  -- Those are at most n.
+  pub fewer : length (straight rules F .items) ≤ x .tokens
+
+-- ---- of every accepted flattening
+
+-- what holds of the rules, the charstring, the lists, the budget, the room and the answer of each accepted flattening of bytes
+abbrev OfAccepted : (Rules → List ℕ → List ℕ → List ℕ → ℕ → List ℕ → Flattening → Type 0) → Type 0
+OfAccepted says =
+    (rules : Rules) (cs globals locals : List ℕ) (budget : ℕ) (out : List ℕ) (x : Flattening) → Bytes cs → Bytes globals → Bytes locals
+    → flattening rules cs globals locals budget out .answer ≡ accepted x → says rules cs globals locals budget out x
+
+abbrev pub reported : Rules → List ℕ → List ℕ → List ℕ → ℕ → List ℕ → Flattening → List ℕ
+reported rules cs globals locals budget out x = take (x .size) (flattening rules cs globals locals budget out .left)
+
+-- demand 3: F is the same glyph
+abbrev pub DemandThree : Type 0
+DemandThree = OfAccepted (λ rules cs globals locals budget out x.
+    SameGlyph rules cs globals locals budget x (reported rules cs globals locals budget out x))
+
+-- demand 2's hint masks: where all stems of F stand before its first mask with bytes, each mask of F has TN5177's bytes
+abbrev pub MasksByNote : Type 0
+MasksByNote = OfAccepted (λ rules cs globals locals budget out x.
+    let shown = straight rules (reported rules cs globals locals budget out x) .items in StemsFirst rules shown → ByNote rules shown)
+
+-- demand 1's budget: the tokens are at most the budget; a budget of at least the tokens changes nothing; a smaller one is refused with 3
+abbrev pub WithinBudget : Type 0
+WithinBudget = OfAccepted (λ rules cs globals locals budget out x. x .tokens ≤ budget)
+
+abbrev pub EnoughBudget : Type 0
+EnoughBudget = OfAccepted (λ rules cs globals locals budget out x.
+    (b : ℕ) → x .tokens ≤ b → flattening rules cs globals locals b out ≡ flattening rules cs globals locals budget out)
+
+abbrev pub SmallBudget : Type 0
+SmallBudget = OfAccepted (λ rules cs globals locals budget out x.
+    (b : ℕ) → b < x .tokens → flattening rules cs globals locals b out ≡ leaving (refused 3 (atToken b)) out)
+
+-- where strict accepts, plain gives the same answer and the same bytes
+abbrev pub StrictThenPlain : Type 0
+StrictThenPlain =
+    (cs globals locals : List ℕ) (budget : ℕ) (out : List ℕ) (x : Flattening) → flattening strict cs globals locals budget out .answer ≡ accepted x
+    → flattening plain cs globals locals budget out ≡ flattening strict cs globals locals budget out
