@@ -1,51 +1,45 @@
--- How a state of the code stands for a state of the reading, and what `look` and `run` ensure.
+-- How a state of the code stands for a state of the reading, and what `look`, `stretch` and `run` ensure.
 use mathlib.Core.Path.{_≡_}
-use mathlib.Core.Bool.{Bool}
 use mathlib.Core.List.{List, [], _∷_, _++_}
-use Prim.Native.Nat.{ℕ, suc, _+_, _-_, _/_, _≤_, _<_}
-use lib.ListN.{length, drop}
-use Rattle.reading.specs.Rules.{Rules, type2}
+use Prim.Native.Nat.{ℕ, zero, suc, _+_, _-_, _/_, _≤_, _<_}
+use lib.ListN.{length, getD, drop}
 use Rattle.number.specs.Number.{charstringRows}
 use Rattle.number.specs.Written.{spelling}
 use Rattle.number.specs.declared.Operand.{Operand}
 use Rattle.index.specs.Index.{extent}
+use Rattle.reading.specs.Rules.{Rules, meant}
 use Rattle.reading.specs.Lists.{Lists, countIn, listsOf}
-use Rattle.reading.specs.Tokens.{number, operator, token, cut}
+use Rattle.reading.specs.Tokens.{Bytes, number, operator, token, cut}
 use Rattle.reading.specs.Items.{Item, operand, bare, masked}
-use Rattle.reading.specs.Reading.{struck, Ending as How, back, ended, stopped, Run, State as Now, refuse, onOperator, onToken, read}
+use Rattle.reading.specs.Reading.{struck, Ending as How, back, ended, stopped, Run, State as Now, refuse, onOperator, onToken, tokensOf, read}
 use Rattle.reading.specs.Flat.{flat}
-use Rattle.reading.specs.ValidLaws.{Good}
 use Rattle.reading.specs.Answers.{numberOf}
+use Rattle.reading.specs.ValidLaws.{ByteLists, Good}
+use Rattle.reading.specs.declared.Rules.{Rules as CodeRules}
 use Rattle.reading.specs.declared.Operator.{Operator}
 use Rattle.reading.specs.declared.Which.{Which}
 use Rattle.reading.specs.declared.Which.the-variants.{Local, Global}
 use Rattle.reading.specs.declared.Kind.the-variants.{Stem, Clear, Mask, Call, Return, End}
 use Rattle.charstring.specs.Words.{shortOf, stackOf}
-use Rattle.charstring.specs.WordsLaws.{Written}
-use Rattle.charstring.specs.declared.charstring.Limits.{Limits}
-use Rattle.charstring.specs.declared.charstring.State.{State}
-use Rattle.charstring.specs.declared.charstring.Ending.{Ending}
-use Rattle.charstring.specs.declared.charstring.Ending.the-variants.{Back, Ended, Refused}
-use Rattle.charstring.specs.declared.charstring.Ran.{Ran}
+use Rattle.charstring.specs.declared.state.State.{State}
+use Rattle.charstring.specs.declared.look.Limits.{Limits}
 use Rattle.charstring.specs.declared.look.Request.{Request}
-use Rattle.charstring.specs.declared.look.Request.the-variants.{Push, Plain, Mask as Masking, Call as Calling, Return as Returning, End as Finish, Out, Bad, Short}
-
--- ---- the rules that a run goes by
-
-pub record Ruled (rules : Rules) (operands hints : ℕ) (exact : Bool) : Type 0 where
-  pub operands-are : rules .operands ≡ operands
-  pub hints-are : rules .hints ≡ hints
-  pub exact-is : rules .exact ≡ exact
-  pub kinds : (p : Operator) → rules .kind p ≡ type2 p
+use Rattle.charstring.specs.declared.look.Request.the-variants.{Push, Clears, Masks, Calls, Returns, Ends, Out, Bad, Short}
+use Rattle.charstring.specs.declared.stretch.Ending.{Ending}
+use Rattle.charstring.specs.declared.stretch.Ending.the-variants.{Back, Ended, Refused}
+use Rattle.charstring.specs.declared.stretch.Stop.{Stop}
+use Rattle.charstring.specs.declared.stretch.Stop.the-variants.{Done as Finished, Call as Calling}
+use Rattle.charstring.specs.declared.stretch.Ran.{Ran}
+use Rattle.charstring.specs.declared.stretch.Stretch.{Stretch}
 
 -- ---- what a token asks for
 
--- a state of the reading with these numbers
-pub record Counts (t : Now) (tokens count hints mask : ℕ) : Type 0 where
-  pub tokens-are : length (t .shown) ≡ tokens
-  pub count-is : length (t .left .operands) ≡ count
-  pub hints-are : t .left .hints ≡ hints
-  pub mask-is : t .left .mask ≡ mask
+-- a state of the reading has the code's numbers
+pub record Counts (t : Now) (s : State) : Type 0 where
+  pub tokens-are : length (t .shown) ≡ s .tokens
+  pub count-is : length (t .left .operands) ≡ s .count
+  pub hints-are : t .left .hints ≡ s .hints
+  pub mask-is : t .left .mask ≡ s .mask
 
 -- the token at i was begun, and the bytes behind it start at j
 pub record Begun (cs : List ℕ) (i j tokens budget : ℕ) : Type 0 where
@@ -58,29 +52,29 @@ pub record AtOperator (cs : List ℕ) (i j tokens budget : ℕ) (p : Operator) :
   pub cut-is : cut (drop i cs) ≡ token (operator p) (drop j cs)
 
 -- the hints after an operator that clears the stack
-pub data Hinted (limit count hints : ℕ) (p : Operator) (h : ℕ) : Type 0 where
-  clears : type2 p ≡ Clear → h ≡ hints → Hinted limit count hints p h
-  counts : type2 p ≡ Stem → h ≡ hints + count / 2 → h ≤ limit → Hinted limit count hints p h
+pub data Hinted (rules : Rules) (s : State) (p : Operator) (h : ℕ) : Type 0 where
+  stays : rules .kind p ≡ Clear → h ≡ s .hints → Hinted rules s p h
+  counts : rules .kind p ≡ Stem → h ≡ s .hints + s .count / 2 → h ≤ rules .hints → Hinted rules s p h
 
 -- the operands, hints and length after a mask operator
-pub data Fixed (count hints mask c h m : ℕ) : Type 0 where
-  first : mask ≡ 0 → c ≡ 0 → h ≡ hints + count / 2 → m ≡ (h + 7) / 8 → Fixed count hints mask c h m
-  later : (mask ≡ 0 → ⊥) → c ≡ count → h ≡ hints → m ≡ mask → Fixed count hints mask c h m
+pub data MaskFixed (s : State) (c h m : ℕ) : Type 0 where
+  first : s .mask ≡ 0 → c ≡ 0 → h ≡ s .hints + s .count / 2 → m ≡ (h + 7) / 8 → MaskFixed s c h m
+  later : (s .mask ≡ 0 → ⊥) → c ≡ s .count → h ≡ s .hints → m ≡ s .mask → MaskFixed s c h m
 
 -- what an operator asks for, of a string of n bytes, where what stands behind it starts at j
-module _ (n j : ℕ) (p : Operator) (limit count hints mask : ℕ) where
+module _ (rules : Rules) (n j : ℕ) (p : Operator) (s : State) where
   -- whatever the lists and the place, it is refused so
   pub record Declines (k : ℕ) : Type 0 where
-    pub refusal : (rules : Rules) (lists : Lists) (levels at operands tokens : ℕ) (exact : Bool) (rest : List ℕ) (t : Now) → Ruled rules operands limit exact
-        → Counts t tokens count hints mask → length rest ≡ n - j → onOperator rules lists levels at rest t p (rules .kind p) ≡ refuse k t
+    pub refusal : (lists : Lists) (levels at : ℕ) (rest : List ℕ) (t : Now) → Counts t s → length rest ≡ n - j
+        → onOperator rules lists levels at rest t p (rules .kind p) ≡ refuse k t
 
   abbrev pub Asked : Request → Type 0
   Asked (Push k o) = ⊥
-  Asked (Plain k h q) = (q ≡ p) × (k ≡ j) × Hinted limit count hints p h
-  Asked (Masking a b c h q) = (q ≡ p) × (a ≡ j) × (type2 p ≡ Mask) × (h ≤ limit) × (j ≤ b) × (b ≤ n) × Fixed count hints mask c h (b - j)
-  Asked (Calling k w) = (k ≡ j) × (type2 p ≡ Call w) × (0 < count)
-  Asked Returning = type2 p ≡ Return
-  Asked (Finish q) = (q ≡ p) × (type2 p ≡ End) × (count < 4)
+  Asked (Clears k h q) = (q ≡ p) × (k ≡ j) × Hinted rules s p h
+  Asked (Masks a b c h q) = (q ≡ p) × (a ≡ j) × (rules .kind p ≡ Mask) × (h ≤ rules .hints) × (j ≤ b) × (b ≤ n) × MaskFixed s c h (b - j)
+  Asked (Calls k w) = (k ≡ j) × (rules .kind p ≡ Call w) × (0 < s .count)
+  Asked Returns = rules .kind p ≡ Return
+  Asked (Ends q) = (q ≡ p) × (rules .kind p ≡ End) × (s .count < 4)
   Asked Out = ⊥
   Asked (Bad k) = Declines (numberOf k)
   Asked (Short k b x) = ⊥
@@ -91,29 +85,37 @@ pub record Spelt (b x n : ℕ) : Type 0 where
   pub bytes : b ∷ x ∷ [] ≡ spelling charstringRows (shortOf b x) ++ others
   pub long : length (spelling charstringRows (shortOf b x)) ≡ n
 
-module _ (cs : List ℕ) (i budget operands limit tokens count hints mask : ℕ) where
-  -- whatever the lists and the place, the step is this refusal
+module _ (rules : Rules) (cs : List ℕ) (i budget : ℕ) (s : State) where
+  -- whatever the lists and the place, the token is refused so
   pub record Refuses (k : ℕ) : Type 0 where
     pub some : i < length cs
-    pub refusal : (rules : Rules) (lists : Lists) (levels at : ℕ) (exact : Bool) (t : Now) → Ruled rules operands limit exact → Counts t tokens count hints mask
-        → onToken rules lists budget levels at (drop i cs) t ≡ refuse k t
+    pub refusal : (lists : Lists) (levels at : ℕ) (t : Now) → Counts t s → onToken rules lists budget levels at (drop i cs) t ≡ refuse k t
 
   -- the operand o, which may be pushed
   abbrev pub Pushes : ℕ → Operand → Type 0
-  Pushes j o = Begun cs i j tokens budget × (cut (drop i cs) ≡ token (number o) (drop j cs)) × (count < operands)
+  Pushes j o = Begun cs i j (s .tokens) budget × (cut (drop i cs) ≡ token (number o) (drop j cs)) × (s .count < rules .operands)
+
+  -- a call of this list, behind which the string goes on at j
+  abbrev pub CallsAt : ℕ → Which → Type 0
+  CallsAt j w = (p : Operator) × AtOperator cs i j (s .tokens) budget p × (rules .kind p ≡ Call w) × (0 < s .count)
 
   abbrev pub Looked : Request → Type 0
   Looked (Push j o) = Pushes j o
-  Looked (Plain j h p) = AtOperator cs i j tokens budget p × Hinted limit count hints p h
-  Looked (Masking a b c h p) = AtOperator cs i a tokens budget p × (type2 p ≡ Mask) × (h ≤ limit) × (a ≤ b) × (b ≤ length cs) × Fixed count hints mask c h (b - a)
-  Looked (Calling j w) = (p : Operator) × AtOperator cs i j tokens budget p × (type2 p ≡ Call w) × (0 < count)
-  Looked Returning = (p : Operator) × (j : ℕ) × AtOperator cs i j tokens budget p × (type2 p ≡ Return)
-  Looked (Finish p) = (j : ℕ) × AtOperator cs i j tokens budget p × (type2 p ≡ End) × (count < 4)
+  Looked (Clears j h p) = AtOperator cs i j (s .tokens) budget p × Hinted rules s p h
+  Looked (Masks a b c h p) =
+      AtOperator cs i a (s .tokens) budget p × (rules .kind p ≡ Mask) × (h ≤ rules .hints) × (a ≤ b) × (b ≤ length cs) × MaskFixed s c h (b - a)
+  Looked (Calls j w) = CallsAt j w
+  Looked Returns = (p : Operator) × (j : ℕ) × AtOperator cs i j (s .tokens) budget p × (rules .kind p ≡ Return)
+  Looked (Ends p) = (j : ℕ) × AtOperator cs i j (s .tokens) budget p × (rules .kind p ≡ End) × (s .count < 4)
   Looked Out = length cs ≤ i
   Looked (Bad k) = Refuses (numberOf k)
   Looked (Short j b x) = Pushes j (shortOf b x) × Spelt b x (j - i)
 
 -- ---- the state
+
+-- as far as both go, the list l has the bytes f
+unfoldable pub Begins : List ℕ → List ℕ → Type 0
+Begins l f = (k : ℕ) → k < length l → k < length f → getD l k 0 ≡ getD f k 0
 
 -- how many items at the end are operands
 unfoldable pub tailOf : List Item → ℕ
@@ -132,32 +134,88 @@ pub record Repr (rules : Rules) (stack out : List ℕ) (s : State) (t : Now) : T
   pub tail-is : tailOf (struck (t .shown)) ≡ s .tail
   pub length-is : length (flat (struck (t .shown))) ≡ s .length
   pub good : Good rules t
-  pub bytes : Written out (flat (struck (t .shown)))
+  pub bytes : Begins out (flat (struck (t .shown)))
 
 abbrev pub howOf : Ending → How
 howOf Back = back
 howOf Ended = ended
 howOf (Refused k) = stopped (numberOf k)
 
--- ---- a run
+-- ---- a string and what it is run with
+
+pub record Setup : Type 0 where
+  pub rules : Rules
+  pub lists : Lists
+  pub budget : ℕ
+  pub levels : ℕ
+  pub cs : List ℕ
+  pub start : Now
+
+-- what runs below the string
+unfoldable pub below : Setup → ℕ → List ℕ → Now → Run
+below u zero body t = record { how = stopped 10; state = t }
+below u (suc levels) body t = read (u .rules) (u .lists) (u .budget) levels body t
+
+-- the reading of the whole string, and from some bytes on
+abbrev pub whole : Setup → Run
+whole u = read (u .rules) (u .lists) (u .budget) (u .levels) (u .cs) (u .start)
+
+abbrev pub onwards : Setup → ℕ → List ℕ → Now → Run
+onwards u fuel rest t = tokensOf (u .rules) (u .lists) (u .budget) (u .levels) (below u (u .levels)) (length (u .cs)) fuel rest t
+
+-- the code stands at i with this state: what is left of the reading is the reading from there on
+pub record Here (u : Setup) (stack out : List ℕ) (s : State) (i : ℕ) : Type 0 where
+  pub entries : ByteLists (u .lists)
+  pub bytes : Bytes (u .cs)
+  pub fuel : ℕ
+  pub enough : length (drop i (u .cs)) ≤ fuel
+  pub now : Now
+  pub repr : Repr (u .rules) stack out s now
+  pub rest : whole u ≡ onwards u fuel (drop i (u .cs)) now
+
+-- ---- how a run ends
 
 -- what a run of the code leaves, beside the reading's x
 pub record Done (rules : Rules) (stack₁ out₁ : List ℕ) (r : Ran) (x : Run) : Type 0 where
   pub how : howOf (r .how) ≡ x .how
   pub tokens-are : length (x .state .shown) ≡ r .st .tokens
   pub length-is : length (flat (struck (x .state .shown))) ≡ r .st .length
-  pub bytes : Written out₁ (flat (struck (x .state .shown)))
+  pub bytes : Begins out₁ (flat (struck (x .state .shown)))
   pub on : x .how ≡ back → Repr rules stack₁ out₁ (r .st) (x .state)
 
--- the state stands for one of the reading, under some rules of these limits
-unfoldable pub Sound : ℕ → Bool → List ℕ → List ℕ → State → Type 0
-Sound hints exact stack out s = (rules : Rules) × (Ruled rules (length stack) hints exact × ((t : Now) × Repr rules stack out s t))
+-- the code's numbers have room in their types and in the stack
+pub record Roomy (by : Limits) (stack : List ℕ) : Type 0 where
+  pub few-hints : by .rules .hints ≤ 65535
+  pub few-words : length stack ≤ 65535
+  pub operands-fit : by .rules .operands ≤ length stack
 
--- whatever state of the reading the state stands for, the run is the reading's
-unfoldable pub RunsTo : List ℕ → List ℕ → List ℕ → Limits → State → List ℕ → List ℕ → ℕ → Ran → List ℕ → List ℕ → Type 0
-RunsTo cs globals locals by s stack out levels r stack₁ out₁ =
-    (rules : Rules) → Ruled rules (length stack) (by .hints) (by .exact) → (t : Now) → Repr rules stack out s t
-    → Done rules stack₁ out₁ r (read rules (listsOf 2 globals locals) (by .budget) levels cs t)
+-- ---- a stretch of tokens without a call
+
+-- what a stretch is not told: the lists, the levels left, and where the string started
+pub record Ground : Type 0 where
+  pub lists : Lists
+  pub levels : ℕ
+  pub start : Now
+
+module _ (cs : List ℕ) (by : Limits) where
+  abbrev pub upon : Ground → Setup
+  upon g = record { rules = meant (by .rules); lists = g .lists; budget = by .budget; levels = g .levels; cs = cs; start = g .start }
+
+  -- the string ended, or a call stands at some place
+  abbrev pub Reached : Ground → List ℕ → List ℕ → State → Stop → Type 0
+  Reached g stack out st (Finished how) = Done (meant (by .rules)) stack out (record { how = how; st = st }) (whole (upon g))
+  Reached g stack out st (Calling next w) =
+      (i : ℕ) × Here (upon g) stack out st i × CallsAt (meant (by .rules)) cs i (by .budget) st next w
+
+  -- the state stands for one of the reading, on some ground
+  unfoldable pub Standing : List ℕ → List ℕ → State → ℕ → Type 0
+  Standing stack out s i = (g : Ground) × Here (upon g) stack out s i
+
+  -- and on whatever ground it does, the stretch is the reading's
+  unfoldable pub StretchesTo : List ℕ → List ℕ → State → ℕ → Stretch → List ℕ → List ℕ → Type 0
+  StretchesTo stack out s i r stack₁ out₁ = (g : Ground) → Here (upon g) stack out s i → Reached g stack₁ out₁ (r .st) (r .stop)
+
+-- ---- a string
 
 -- the list that a call names, and how many entries it has
 abbrev pub chosen : Which → List ℕ → List ℕ → List ℕ
@@ -168,9 +226,25 @@ abbrev pub chosenCount : Which → Limits → ℕ
 chosenCount Local by = by .locals
 chosenCount Global by = by .globals
 
+-- how many entries a list has; none where it cannot be read
+abbrev pub countOf : CodeRules → List ℕ → ℕ
+countOf r list = countIn (extent (meant r .width) list)
+
 -- what holds all through a run
-pub record Setting (globals locals : List ℕ) (by : Limits) (operands : ℕ) : Type 0 where
-  pub few-hints : by .hints ≤ 65535
-  pub few-operands : operands ≤ 65535
-  pub global-count : by .globals ≡ countIn (extent 2 globals)
-  pub local-count : by .locals ≡ countIn (extent 2 locals)
+pub record Setting (globals locals : List ℕ) (by : Limits) (stack : List ℕ) : Type 0 where
+  pub roomy : Roomy by stack
+  pub global-count : by .globals ≡ countOf (by .rules) globals
+  pub local-count : by .locals ≡ countOf (by .rules) locals
+
+-- the state stands for one of the reading
+unfoldable pub Sound : Limits → List ℕ → List ℕ → State → Type 0
+Sound by stack out s = (t : Now) × Repr (meant (by .rules)) stack out s t
+
+module _ (cs globals locals : List ℕ) (by : Limits) where
+  abbrev pub grounded : ℕ → Now → Ground
+  grounded levels t = record { lists = listsOf (meant (by .rules) .width) globals locals; levels = levels; start = t }
+
+  -- whatever state of the reading the state stands for, the run is the reading's
+  unfoldable pub RunsTo : State → List ℕ → List ℕ → ℕ → Ran → List ℕ → List ℕ → Type 0
+  RunsTo s stack out levels r stack₁ out₁ =
+      (t : Now) → Repr (meant (by .rules)) stack out s t → Done (meant (by .rules)) stack₁ out₁ r (whole (upon cs by (grounded levels t)))

@@ -1,17 +1,17 @@
 // Operands as words of a lent stack.
 use number::NumberRead;
 use number::Operand;
+use number::bits_of;
 use number::read_charstring_number;
+use number::value_of;
 ghost use mathlib.Core.Path.{_≡_};
-ghost use Prim.Native.Nat.{_<_, _^_};
-ghost use Rattle.number.specs.Signed.{signed, unsigned};
 ghost use Rattle.charstring.specs.Words.{unpackOf, shortOf};
 
 // A word that holds o: its value's 32 bits, and above them 1 for an integer and 2 for a Fixed.
 pub(crate) fn pack(o: Operand) -> u64
     ensures { λ r. ⌜ unpackOf r ≡ o ⌝ }
 {
-    let bits = bits_of(o.value);
+    let bits = bits_of(o.value) as u64;
     if o.fixed {
         return 8589934592 + bits;
     }
@@ -34,7 +34,7 @@ pub(crate) fn unpack(w: u64) -> Operand
     }
     Operand {
         fixed: 8589934592 <= w,
-        value: value_of(w % 4294967296),
+        value: value_of((w % 4294967296) as u32),
     }
 }
 
@@ -49,26 +49,4 @@ fn short_of(b: u8, x: u8) -> Operand
         };
     };
     o
-}
-
-// The 32 bits of z.
-pub(crate) fn bits_of(z: i32) -> u64
-    ensures { λ r. ⌜ r ≡ unsigned (2 ^ 31) z ⌝ }
-    ensures { λ r. ⌜ r < 2 ^ 32 ⌝ }
-{
-    if z < 0 {
-        return 4294967295 - ((-(z + 1)) as u32) as u64;
-    }
-    (z as u32) as u64
-}
-
-// The number whose 32 bits these are.
-fn value_of(bits: u64) -> i32
-    requires { ⌜ bits < 2 ^ 32 ⌝ }
-    ensures { λ r. ⌜ r ≡ signed (2 ^ 31) bits ⌝ }
-{
-    if bits < 2147483648 {
-        return bits as i32;
-    }
-    -((4294967295 - bits) as i32) - 1
 }

@@ -1,35 +1,29 @@
 // Flattening: the verdict without writing, and the flat string into lent room.
-use crate::charstring::Ending;
-use crate::charstring::Limits;
-use crate::charstring::State;
 use crate::charstring::run;
+use crate::look::Limits;
+use crate::state::at_start;
 use crate::store::put_bytes;
+use crate::stretch::Ending;
 use index::Formed;
 use index::IndexRead;
+use index::Width;
 use index::read_index;
 use index::well_formed;
 use reading::Flattened;
 use reading::Profile;
 use reading::Refusal;
+use reading::Rules;
+use reading::rules_of;
 ghost use mathlib.Core.Path.{_≡_};
 ghost use Prim.Native.Nat.{_-_, _≤_, _<_};
 ghost use mathlib.Core.List.{_++_};
 ghost use lib.ListN.{length, take, drop};
-ghost use Rattle.index.specs.Index.{extent};
+ghost use Rattle.index.specs.Index.{widthOf, extent};
 ghost use Rattle.reading.specs.Rules.{rulesOf};
-ghost use Rattle.reading.specs.Lists.{countIn, listsOf};
-ghost use Rattle.reading.specs.Reading.{stopped, tokensBy, reading};
-ghost use Rattle.reading.specs.Answers.{numberOf, flatOf, flattened, outcome, flattening};
-ghost use Rattle.charstring.specs.WordsLaws.{Written};
-ghost use Rattle.charstring.specs.Verdicts.{measured, measureOf};
-
-// A charstring's verdict, whatever the room.
-pub enum Measured {
-    // Accepted: the length of the flat string, and the tokens.
-    Flat(usize, u32),
-    // Refused at this token.
-    Stopped(Refusal, u32),
-}
+ghost use Rattle.reading.specs.Lists.{countIn};
+ghost use Rattle.reading.specs.Reading.{stopped, tokensBy, original};
+ghost use Rattle.reading.specs.Answers.{numberOf, flatOf, flattened, verdict, outcome, flattening};
+ghost use Rattle.charstring.specs.Run.{Begins, countOf};
 
 // Flattens a charstring with its two subroutine lists into the start of out. A refusal changes no
 // byte of out, and acceptance only those that it reports.
@@ -43,10 +37,11 @@ pub fn flatten<'a>(
 ) -> Flattened
     ensures { λ r. ⌜ record { answer = flattened r; left = now (out .exit) } ≡ flattening (rulesOf profile) (now (cs .entry)) (now (globals .entry)) (now (locals .entry)) budget (now (out .entry)) ⌝ }
 {
-    let Formed::Yes(_) = well_formed(globals) else {
+    let width = rules_of(profile).width;
+    let Formed::Yes(_) = well_formed(globals, width) else {
         return Flattened::BadGlobals;
     };
-    let Formed::Yes(_) = well_formed(locals) else {
+    let Formed::Yes(_) = well_formed(locals, width) else {
         return Flattened::BadLocals;
     };
     write(cs, globals, locals, profile, budget, out)
@@ -62,23 +57,22 @@ pub fn write<'a>(
     budget: u32,
     out: &mut [u8],
 ) -> Flattened
-    ensures { λ r. ⌜ record { answer = flattened r; left = now (out .exit) } ≡ outcome (now (out .entry)) (reading (rulesOf profile) (listsOf 2 (now (globals .entry)) (now (locals .entry))) budget (now (cs .entry))) ⌝ }
+    ensures { λ r. ⌜ record { answer = flattened r; left = now (out .exit) } ≡ outcome (now (out .entry)) (original (rulesOf profile) (now (cs .entry)) (now (globals .entry)) (now (locals .entry)) budget) ⌝ }
 {
     let mut held = [0u8; 2048];
-    match draft(cs, globals, locals, profile, budget, &mut held) {
-        Measured::Stopped(k, tokens) => Flattened::Refused(k, tokens),
-        Measured::Flat(n, tokens) => {
-            if out.len() < n {
-                return Flattened::NoRoom(n, tokens);
-            }
-            if n <= held.len() {
-                keep(out, n, &held);
-            } else {
-                draft(cs, globals, locals, profile, budget, &mut out[..n]);
-            }
-            Flattened::Accepted(n, tokens)
-        }
+    let verdict = draft(cs, globals, locals, profile, budget, &mut held);
+    let Flattened::Accepted(n, tokens) = verdict else {
+        return verdict;
+    };
+    if out.len() < n {
+        return Flattened::NoRoom(n, tokens);
     }
+    if n <= held.len() {
+        keep(out, n, &held);
+    } else {
+        draft(cs, globals, locals, profile, budget, &mut out[..n]);
+    }
+    Flattened::Accepted(n, tokens)
 }
 
 // The verdict on a charstring, without writing. An entry that a list lacks answers 9.
@@ -88,8 +82,8 @@ pub fn measure<'a>(
     locals: &'a [u8],
     profile: Profile,
     budget: u32,
-) -> Measured
-    ensures { λ r. ⌜ measured r ≡ measureOf (reading (rulesOf profile) (listsOf 2 (now (globals .entry)) (now (locals .entry))) budget (now (cs .entry))) ⌝ }
+) -> Flattened
+    ensures { λ r. ⌜ flattened r ≡ verdict (original (rulesOf profile) (now (cs .entry)) (now (globals .entry)) (now (locals .entry)) budget) ⌝ }
 {
     let mut held = [0u8; 1];
     draft(cs, globals, locals, profile, budget, &mut held)
@@ -103,28 +97,20 @@ fn draft<'a>(
     profile: Profile,
     budget: u32,
     held: &mut [u8],
-) -> Measured
-    ensures { λ r. ⌜ measured r ≡ measureOf (reading (rulesOf profile) (listsOf 2 (now (globals .entry)) (now (locals .entry))) budget (now (cs .entry))) ⌝ }
-    ensures { λ r. ⌜ Written (now (held .exit)) (flatOf (reading (rulesOf profile) (listsOf 2 (now (globals .entry)) (now (locals .entry))) budget (now (cs .entry)))) ⌝ }
+) -> Flattened
+    ensures { λ r. ⌜ flattened r ≡ verdict (original (rulesOf profile) (now (cs .entry)) (now (globals .entry)) (now (locals .entry)) budget) ⌝ }
+    ensures { λ r. ⌜ Begins (now (held .exit)) (flatOf (original (rulesOf profile) (now (cs .entry)) (now (globals .entry)) (now (locals .entry)) budget)) ⌝ }
 {
-    let by = limits_of(profile, budget, globals, locals);
+    let rules = rules_of(profile);
+    let by = limits_of(rules, budget, globals, locals);
     let mut stack = [0u64; 48];
-    let r = run(
-        cs,
-        globals,
-        locals,
-        by,
-        begun(),
-        &mut stack,
-        held,
-        levels_of(profile),
-    );
+    let r = run(cs, globals, locals, by, at_start(), &mut stack, held, rules.levels);
     let how = r.how;
     let st = r.st;
     match how {
-        Ending::Back => Measured::Flat(st.length, st.tokens),
-        Ending::Ended => Measured::Flat(st.length, st.tokens),
-        Ending::Refused(k) => Measured::Stopped(k, counted(k, st.tokens)),
+        Ending::Back => Flattened::Accepted(st.length, st.tokens),
+        Ending::Ended => Flattened::Accepted(st.length, st.tokens),
+        Ending::Refused(k) => Flattened::Refused(k, counted(k, st.tokens)),
     }
 }
 
@@ -136,65 +122,22 @@ fn keep(out: &mut [u8], n: usize, held: &[u8])
     put_bytes(out, 0, &held[..n]);
 }
 
-// The state before the first token.
-fn begun() -> State
-    ensures { λ r. ⌜ r ≡ record { count = 0; tail = 0; hints = 0; mask = 0; tokens = 0; length = 0 } ⌝ }
-{
-    State {
-        count: 0,
-        tail: 0,
-        hints: 0,
-        mask: 0,
-        tokens: 0,
-        length: 0,
-    }
-}
-
-fn limits_of(profile: Profile, budget: u32, globals: &[u8], locals: &[u8]) -> Limits
-    ensures { λ r. ⌜ r ≡ record { budget = budget; hints = rulesOf profile .hints; exact = rulesOf profile .exact; globals = countIn (extent 2 (now (globals .entry))); locals = countIn (extent 2 (now (locals .entry))) } ⌝ }
+fn limits_of(rules: Rules, budget: u32, globals: &[u8], locals: &[u8]) -> Limits
+    ensures { λ r. ⌜ r ≡ record { rules = rules; budget = budget; globals = countOf rules (now (globals .entry)); locals = countOf rules (now (locals .entry)) } ⌝ }
 {
     Limits {
+        rules,
         budget,
-        hints: hints_of(profile),
-        exact: exact_of(profile),
-        globals: count_of(globals),
-        locals: count_of(locals),
-    }
-}
-
-fn hints_of(profile: Profile) -> usize
-    ensures { λ r. ⌜ r ≡ rulesOf profile .hints ⌝ }
-{
-    match profile {
-        Profile::Plain => 65535,
-        Profile::Strict => 96,
-    }
-}
-
-fn exact_of(profile: Profile) -> bool
-    ensures { λ r. ⌜ r ≡ rulesOf profile .exact ⌝ }
-{
-    match profile {
-        Profile::Plain => false,
-        Profile::Strict => true,
-    }
-}
-
-// How many levels of calls a charstring has below it.
-fn levels_of(profile: Profile) -> u32
-    ensures { λ r. ⌜ r ≡ rulesOf profile .depth - 1 ⌝ }
-{
-    match profile {
-        Profile::Plain => 63,
-        Profile::Strict => 10,
+        globals: count_of(globals, rules.width),
+        locals: count_of(locals, rules.width),
     }
 }
 
 // How many entries a list has; none where it cannot be read.
-fn count_of(list: &[u8]) -> u32
-    ensures { λ r. ⌜ r ≡ countIn (extent 2 (now (list .entry))) ⌝ }
+fn count_of(list: &[u8], width: Width) -> u32
+    ensures { λ r. ⌜ r ≡ countIn (extent (widthOf width) (now (list .entry))) ⌝ }
 {
-    let IndexRead::Read(count, _) = read_index(list) else {
+    let IndexRead::Read(count, _) = read_index(list, width) else {
         return 0;
     };
     count

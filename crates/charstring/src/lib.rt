@@ -4,11 +4,12 @@ mod charstring;
 mod flattening;
 mod look;
 mod operator;
+mod state;
 mod store;
+mod stretch;
 mod subroutines;
 mod token;
 
-pub use crate::flattening::Measured;
 pub use crate::flattening::flatten;
 pub use crate::flattening::measure;
 pub use crate::flattening::write;

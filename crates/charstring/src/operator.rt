@@ -4,7 +4,7 @@ use reading::Operator;
 use reading::Which;
 ghost use mathlib.Core.Path.{_≡_};
 ghost use mathlib.Core.Bool.{true, false};
-ghost use Rattle.reading.specs.Rules.{among, clearing, type2, plainKind, escapedKind};
+ghost use Rattle.reading.specs.Rules.{among, clearing, type2, byteKind, escapedKind};
 ghost use Rattle.reading.specs.declared.Kind.the-variants.{Clear};
 
 pub(crate) fn kind_of(p: Operator) -> Kind
@@ -13,12 +13,12 @@ pub(crate) fn kind_of(p: Operator) -> Kind
     if p.escaped {
         return escaped_kind(p.byte);
     }
-    plain_kind(p.byte)
+    byte_kind(p.byte)
 }
 
 // An operator of one byte.
-fn plain_kind(b: u8) -> Kind
-    ensures { λ r. ⌜ r ≡ plainKind b ⌝ }
+fn byte_kind(b: u8) -> Kind
+    ensures { λ r. ⌜ r ≡ byteKind b ⌝ }
 {
     if clears(b) {
         return Kind::Clear;
@@ -40,7 +40,7 @@ fn plain_kind(b: u8) -> Kind
 
 // Whether an operator of one byte only clears the stack: a list of keys, which is compiled to the test of a bit.
 pub(crate) fn clears(b: u8) -> bool
-    ensures { λ r. ⌜ (r ≡ true → Clear ≡ plainKind b) × (r ≡ false → among b clearing ≡ false) ⌝ }
+    ensures { λ r. ⌜ (r ≡ true → Clear ≡ byteKind b) × (r ≡ false → among b clearing ≡ false) ⌝ }
 {
     match b {
         4 => true,

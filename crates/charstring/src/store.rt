@@ -1,7 +1,10 @@
 // Storing items as far as the room goes: past its end nothing is stored, and the length is counted all
 // the same.
-use crate::argstack::bits_of;
+use number::Coded;
+use number::NumberWritten;
 use number::Operand;
+use number::charstring_form;
+use number::write_charstring_number;
 use reading::Operator;
 ghost use mathlib.Core.Path.{_≡_};
 ghost use mathlib.Core.List.{[], _∷_};
@@ -11,7 +14,6 @@ ghost use lib.Seq.{sets};
 ghost use Rattle.number.specs.Number.{charstringRows};
 ghost use Rattle.number.specs.Written.{spelling};
 ghost use Rattle.reading.specs.Flat.{operatorBytes};
-ghost use Rattle.charstring.specs.Short.{integerBytes, wideBytes, fixedBytes};
 
 // Stores o in its shortest form from `at` on; where it ends.
 pub(crate) fn put_operand(out: &mut [u8], at: usize, o: Operand) -> usize
@@ -19,37 +21,21 @@ pub(crate) fn put_operand(out: &mut [u8], at: usize, o: Operand) -> usize
     ensures { λ r. ⌜ r ≡ at + length (spelling charstringRows o) ⌝ }
     ensures { λ r. ⌜ now (out .exit) ≡ sets (now (out .entry)) at (spelling charstringRows o) ⌝ }
 {
-    let bits = bits_of(o.value);
-    if o.fixed {
-        return put_fixed(out, at, bits);
-    }
-    put_integer(out, at, (bits + 32768) % 4294967296)
+    let mut held = [0u8; 5];
+    let NumberWritten::Bytes(n) = write_charstring_number(o, &mut held) else {
+        return at;
+    };
+    put_bytes(out, at, &held[..n])
 }
 
 // How many bytes o takes.
 pub(crate) fn size_of(o: Operand) -> usize
     ensures { λ r. ⌜ r ≡ length (spelling charstringRows o) ⌝ }
 {
-    if o.fixed {
-        return 5;
-    }
-    let v = (bits_of(o.value) + 32768) % 4294967296;
-    if v < 31637 {
-        return 3;
-    }
-    if v < 32661 {
-        return 2;
-    }
-    if v <= 32875 {
-        return 1;
-    }
-    if v <= 33899 {
-        return 2;
-    }
-    if v <= 65535 {
-        return 3;
-    }
-    0
+    let Coded::Is(form) = charstring_form(o) else {
+        return 0;
+    };
+    form.after + 1
 }
 
 // Stores an operator with its escape byte.
@@ -92,64 +78,6 @@ fn clipped(room: usize, at: usize, n: usize) -> usize
         return room - at;
     }
     n
-}
-
-// Stores the integer v - 32768; nothing where 16 bits do not hold it.
-fn put_integer(out: &mut [u8], at: usize, v: u64) -> usize
-    requires { ⌜ at < 2 ^ 60 ⌝ }
-    ensures { λ r. ⌜ r ≡ at + length (integerBytes v) ⌝ }
-    ensures { λ r. ⌜ now (out .exit) ≡ sets (now (out .entry)) at (integerBytes v) ⌝ }
-{
-    if v < 31637 {
-        return put_wide(out, at, v);
-    }
-    if v < 32661 {
-        return put_two(
-            out,
-            at,
-            (251 + (32660 - v) / 256) as u8,
-            ((32660 - v) % 256) as u8,
-        );
-    }
-    if v <= 32875 {
-        return put_byte(out, at, (v - 32629) as u8);
-    }
-    if v <= 33899 {
-        return put_two(
-            out,
-            at,
-            (247 + (v - 32876) / 256) as u8,
-            ((v - 32876) % 256) as u8,
-        );
-    }
-    if v <= 65535 {
-        return put_wide(out, at, v);
-    }
-    at
-}
-
-// Stores the integer v - 32768 in three bytes.
-fn put_wide(out: &mut [u8], at: usize, v: u64) -> usize
-    requires { ⌜ (at < 2 ^ 60) × (v < 2 ^ 16) ⌝ }
-    ensures { λ r. ⌜ r ≡ at + 3 ⌝ }
-    ensures { λ r. ⌜ now (out .exit) ≡ sets (now (out .entry)) at (wideBytes v) ⌝ }
-{
-    let bits = (v + 32768) % 65536;
-    let next = put_byte(out, at, 28);
-    put_two(out, next, (bits / 256) as u8, (bits % 256) as u8)
-}
-
-// Stores the Fixed that has these bits.
-fn put_fixed(out: &mut [u8], at: usize, bits: u64) -> usize
-    requires { ⌜ (at < 2 ^ 60) × (bits < 2 ^ 32) ⌝ }
-    ensures { λ r. ⌜ r ≡ at + 5 ⌝ }
-    ensures { λ r. ⌜ now (out .exit) ≡ sets (now (out .entry)) at (fixedBytes bits) ⌝ }
-{
-    let high = bits / 65536;
-    let low = bits % 65536;
-    let first = put_byte(out, at, 255);
-    let third = put_two(out, first, (high / 256) as u8, (high % 256) as u8);
-    put_two(out, third, (low / 256) as u8, (low % 256) as u8)
 }
 
 pub(crate) fn put_two(out: &mut [u8], at: usize, x: u8, y: u8) -> usize

@@ -1,14 +1,17 @@
 // The entry that a call enters.
 use index::EntryRead;
+use index::Width;
 use index::read_entry;
 use number::Callee;
 use number::Operand;
 use number::callee_of;
 use reading::Refusal;
+use reading::Rules;
 ghost use mathlib.Core.Path.{_≡_};
 ghost use lib.ListN.{length};
-ghost use Rattle.index.specs.Index.{place};
-ghost use Rattle.charstring.specs.Words.{aimed, enterBy, targetOf, Inside};
+ghost use Rattle.index.specs.Index.{widthOf, place};
+ghost use Rattle.reading.specs.Rules.{meant};
+ghost use Rattle.charstring.specs.Words.{aimed, enterable, targetOf, Inside};
 
 pub(crate) enum Target {
     // The part of the list from here to there.
@@ -23,26 +26,26 @@ pub(crate) fn aim(
     list: &[u8],
     count: u32,
     o: Operand,
-    exact: bool,
+    rules: Rules,
     levels: u32,
     tail: usize,
 ) -> Target
-    ensures { λ r. ⌜ targetOf r ≡ aimed (now (list .entry)) count o exact levels tail ⌝ }
+    ensures { λ r. ⌜ targetOf r ≡ aimed (meant rules) (now (list .entry)) count o levels tail ⌝ }
     ensures { λ r. ⌜ Inside (length (now (list .entry))) r ⌝ }
 {
-    match callee_of(o, exact, count) {
-        Callee::Entry(k) => enter(list, k, levels, tail),
+    match callee_of(o, rules.exact, count) {
+        Callee::Entry(k) => admit(list, rules.width, k, levels, tail),
         Callee::NotWhole => Target::No(Refusal::NoIndex),
         Callee::Outside => Target::No(Refusal::NoEntry),
     }
 }
 
 // Entry k: 9, 10, 8 in this order.
-fn enter(list: &[u8], k: u32, levels: u32, tail: usize) -> Target
-    ensures { λ r. ⌜ targetOf r ≡ enterBy levels tail (place 2 (now (list .entry)) k) ⌝ }
+fn admit(list: &[u8], width: Width, k: u32, levels: u32, tail: usize) -> Target
+    ensures { λ r. ⌜ targetOf r ≡ enterable levels tail (place (widthOf width) (now (list .entry)) k) ⌝ }
     ensures { λ r. ⌜ Inside (length (now (list .entry))) r ⌝ }
 {
-    let EntryRead::Entry(start, length) = read_entry(list, k) else {
+    let EntryRead::Entry(start, length) = read_entry(list, width, k) else {
         return Target::No(Refusal::NoEntry);
     };
     if levels == 0 {
