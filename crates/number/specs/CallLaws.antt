@@ -14,19 +14,10 @@ use lib.Pow.{pow-add, shl-shr}
 use borrow.Author.Tests.{le-leb, lt-leb, lt-ltb, le-ltb, eq-eqb, ne-eqb, eqb-true}
 use Rattle.number.specs.Answer.{Values, Answer, accepted, refused, alone}
 use Rattle.number.specs.Call.{bitLength, nearest, off, counts, signedAs, callIndex, biasOf, entryOf, biased, callee}
+use Rattle.number.specs.Code.{units}
 use Rattle.number.specs.declared.Operand.{Operand}
-use Rattle.number.specs.declared.call.Part.{Part}
-use Rattle.number.specs.declared.call.Part.the-variants.{Units, Broken}
 
 -- ---- a magnitude
-
--- how many units of 65536 m counts as, or 7
-unfoldable pub units : Bool → ℕ → Answer ℕ
-units exact m = cond (counts exact m) (accepted (nearest m)) (refused 7 alone)
-
-abbrev pub partOf : Part → Answer ℕ
-partOf (Units q) = accepted q
-partOf Broken = refused 7 alone
 
 pub length-leading : (k m : ℕ) → bitLength k m + leadingZeros k m ≡ k
 unfolding bitLength leadingZeros

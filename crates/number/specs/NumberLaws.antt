@@ -14,23 +14,9 @@ use Rattle.number.specs.BigEndian.{beAt}
 use Rattle.number.specs.BigEndianLaws.{and-false, both}
 use Rattle.number.specs.Signed.{signed}
 use Rattle.number.specs.Number.{Row, row32, row247, row251, row28, integerRows, lastRow, rowsOf, Found, row, noRow, on, rowOf, pairOf, valueBy, operandBy, Number, numberBy, readBy}
+use Rattle.number.specs.Code.{afterOf, widthOf, operandOf}
 use Rattle.number.specs.declared.Operand.{Operand}
-use Rattle.number.specs.declared.read.After.{After}
 use Rattle.number.specs.declared.read.After.the-variants.{Bytes, Nothing}
-
--- ---- what the code asks of a first byte
-
-unfoldable pub afterOf : Found → After
-afterOf (row r) = Bytes (r .after)
-afterOf noRow = Nothing
-
-unfoldable pub widthOf : Found → ℕ
-widthOf (row r) = r .after
-widthOf noRow = 0
-
-unfoldable pub operandOf : Found → ℕ → ℕ → Operand
-operandOf (row r) b v = operandBy r b v
-operandOf noRow b v = record { fixed = false; value = pos 0 }
 
 -- ---- the row of a first byte
 

@@ -10,6 +10,8 @@ use Rattle.number.specs.Signed.{unsigned}
 use Rattle.number.specs.Number.{Value, near, above, below, twos, Row}
 use Rattle.number.specs.declared.Operand.{Operand}
 use Rattle.number.specs.declared.write.Form.{Form}
+use Rattle.number.specs.declared.write.Coded.{Coded}
+use Rattle.number.specs.declared.write.Coded.the-variants.{Is, Outside as NoForm}
 use Rattle.number.specs.declared.write.NumberWritten.{NumberWritten}
 use Rattle.number.specs.declared.write.NumberWritten.the-variants.{Bytes, NoRoom, Outside}
 use Rattle.number.specs.declared.write.IntegerWritten.{IntegerWritten}
@@ -61,7 +63,11 @@ spelling rows o = bytesBy (spell rows o)
 unfoldable pub write : List Row → Operand → List ℕ → Outcome (Answer ℕ)
 write rows o out = into out (mapped (λ (f : Form). sized (bytes f)) (spell rows o))
 
--- what the writers' enums say, by document 01's numbers
+-- what the enums say, by document 01's numbers
+abbrev pub coded : Coded → Answer Form
+coded (Is f) = accepted f
+coded NoForm = refused 17 alone
+
 abbrev pub numberWritten : NumberWritten → Answer ℕ
 numberWritten (Bytes n) = accepted n
 numberWritten (NoRoom n) = refused 13 (needing n)

@@ -16,28 +16,12 @@ use Rattle.number.specs.BigEndianLaws.{length-bytes, and-false}
 use Rattle.number.specs.Signed.{unsigned}
 use Rattle.number.specs.Number.{Value, near, above, below, twos, Row, row32, row247, row251, row28, row29, row255, integerRows, lastRow, rowsOf}
 use Rattle.number.specs.NumberLaws.{Every, fours}
-use Rattle.number.specs.Written.{integer, has, form, formBy, spell, bytes, write}
+use Rattle.number.specs.Written.{integer, has, form, formBy, spell, bytes, write, coded}
+use Rattle.number.specs.Code.{Kept, kept, storeForm}
 use Rattle.number.specs.declared.Operand.{Operand}
 use Rattle.number.specs.declared.write.Form.{Form}
 use Rattle.number.specs.declared.write.Coded.{Coded}
 use Rattle.number.specs.declared.write.Coded.the-variants.{Is, Outside}
-
--- ---- what the code has
-
-abbrev pub coded : Coded → Answer Form
-coded (Is f) = accepted f
-coded Outside = refused 17 alone
-
--- whether a form was stored, and what is left in the room
-pub record Kept : Type 0 where
-  pub done : Bool
-  pub left : List ℕ
-
-abbrev pub kept : Bool → List ℕ → Kept
-kept t l = record { done = t; left = l }
-
-unfoldable pub storeForm : Form → List ℕ → Kept
-storeForm f out = cond (ltb (f .after) (length out)) (kept true (bytes f ++ drop (f .after + 1) out)) (kept false out)
 
 -- ---- the form of an operand, row by row
 

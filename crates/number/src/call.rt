@@ -6,7 +6,7 @@ use crate::signed::split;
 ghost use mathlib.Core.Path.{_≡_};
 ghost use Prim.Native.Nat.{_≤_};
 ghost use Rattle.number.specs.Call.{apart, biasOf, callIndex, callee, wholeOf, calleeOf};
-ghost use Rattle.number.specs.CallLaws.{units, partOf};
+ghost use Rattle.number.specs.Code.{units, partOf};
 
 // An operand as an index.
 pub enum Whole {

@@ -7,7 +7,7 @@ ghost use mathlib.Core.Path.{_≡_};
 ghost use mathlib.Core.Bool.{false};
 ghost use Prim.Native.Nat.{_*_, _<_, _^_};
 ghost use Rattle.number.specs.Number.{charstringRows, dictRows, rowsOf, lastRow, rowOf, readBy, numberRead};
-ghost use Rattle.number.specs.NumberLaws.{afterOf, widthOf, operandOf};
+ghost use Rattle.number.specs.Code.{afterOf, widthOf, operandOf};
 
 // What reading a number finds.
 pub enum NumberRead {

@@ -8,8 +8,8 @@ ghost use mathlib.Core.Path.{_≡_};
 ghost use Prim.Native.Nat.{_≤_};
 ghost use lib.IntN.{pos, negsuc};
 ghost use Rattle.number.specs.Number.{charstringRows, dictRows, integerRows};
-ghost use Rattle.number.specs.Written.{integer, spell, write, numberWritten, integerWritten};
-ghost use Rattle.number.specs.WrittenLaws.{coded, kept, storeForm};
+ghost use Rattle.number.specs.Written.{integer, spell, write, coded, numberWritten, integerWritten};
+ghost use Rattle.number.specs.Code.{kept, storeForm};
 
 // What writing a charstring number did.
 pub enum NumberWritten {

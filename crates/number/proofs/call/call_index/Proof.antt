@@ -1,5 +1,6 @@
 use Rattle.number.proofs.Border.{moved, up-is, down-is}
-use Rattle.number.specs.CallLaws.{units, partOf, units-are, an-integer, not-up, not-down, is-up, is-down}
+use Rattle.number.specs.Code.{units, partOf}
+use Rattle.number.specs.CallLaws.{units-are, an-integer, not-up, not-down, is-up, is-down}
 use Rattle.number.specs.SignedLaws.{less-none, none-less}
 use Rattle.number.specs.Answer.{accepted}
 use lib.Signed.{mag}

@@ -2,7 +2,8 @@ use Rattle.number.specs.declared.read.After.the-variants.{Bytes}
 use Rattle.number.specs.BigEndian.{beAt}
 use lib.Dec.{lit<}
 use borrow.Author.Tests.{ltb-true}
-use Rattle.number.specs.NumberLaws.{afterOf, widthOf, after-near, operandOf, read-none, read-some, by-none, by-short, by-row, width-le, width-is}
+use Rattle.number.specs.NumberLaws.{after-near, read-none, read-some, by-none, by-short, by-row, width-le, width-is}
+use Rattle.number.specs.Code.{afterOf, widthOf, operandOf}
 use Rattle.number.specs.Number.{rowsOf, rowOf}
 use Rattle.number.specs.BigEndianLaws.{be-lt}
 use lib.ListN.{getD}

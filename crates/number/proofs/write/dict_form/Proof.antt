@@ -1,7 +1,7 @@
 use mathlib.Core.Bool.{true}
 use Rattle.number.proofs.Border.{moved}
-use Rattle.number.specs.WrittenLaws.{coded, table-left, dict-five}
-use Rattle.number.specs.Written.{integer, spell}
+use Rattle.number.specs.WrittenLaws.{table-left, dict-five}
+use Rattle.number.specs.Written.{coded, integer, spell}
 use Rattle.number.specs.Signed.{unsigned}
 use Rattle.number.specs.Number.{integerRows}
 use lib.IntN.{ℤ}

@@ -1,5 +1,5 @@
-use Rattle.number.specs.WrittenLaws.{coded, after-le, write-refused, write-stored, write-short}
-use Rattle.number.specs.Written.{spell}
+use Rattle.number.specs.WrittenLaws.{after-le, write-refused, write-stored, write-short}
+use Rattle.number.specs.Written.{coded, spell}
 use Rattle.number.specs.Number.{charstringRows}
 use Rattle.number.specs.Answer.{accepted}
 use mathlib.Core.Bool.{false}
