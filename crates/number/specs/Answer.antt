@@ -18,7 +18,7 @@ pub data Answer (A : Type 0) : Type 0 where
   refused : ℕ → Values → Answer A
 
 -- the number of an answer
-unfoldable pub numberIn : {A : Type 0} → Answer A → ℕ
+abbrev pub numberIn : {A : Type 0} → Answer A → ℕ
 numberIn (accepted x) = 0
 numberIn (refused n v) = n
 

@@ -19,8 +19,13 @@ pub use crate::call::callee_of;
 pub use crate::read::NumberRead;
 pub use crate::read::read_charstring_number;
 pub use crate::read::read_dict_integer;
+pub use crate::signed::bits_of;
+pub use crate::signed::value_of;
+pub use crate::write::Coded;
+pub use crate::write::Form;
 pub use crate::write::IntegerWritten;
 pub use crate::write::NumberWritten;
+pub use crate::write::charstring_form;
 pub use crate::write::write_charstring_number;
 pub use crate::write::write_dict_integer;
 

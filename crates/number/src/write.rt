@@ -7,6 +7,7 @@ use crate::signed::split;
 ghost use mathlib.Core.Path.{_≡_};
 ghost use Prim.Native.Nat.{_≤_};
 ghost use lib.IntN.{pos, negsuc};
+ghost use Rattle.number.specs.Answer.{numberIn};
 ghost use Rattle.number.specs.Number.{charstringRows, dictRows, integerRows};
 ghost use Rattle.number.specs.Written.{integer, spell, write, coded, numberWritten, integerWritten};
 ghost use Rattle.number.specs.Code.{kept, storeForm};
@@ -21,10 +22,35 @@ pub enum NumberWritten {
     Outside,
 }
 
+impl NumberWritten {
+    // The answer's number: 0 where bytes were written.
+    pub fn number(self) -> u32
+        ensures { λ r. ⌜ r ≡ numberIn (numberWritten self) ⌝ }
+    {
+        match self {
+            NumberWritten::Bytes(_) => 0,
+            NumberWritten::NoRoom(_) => 13,
+            NumberWritten::Outside => 17,
+        }
+    }
+}
+
 // What writing a DICT integer did.
 pub enum IntegerWritten {
     Bytes(usize),
     NoRoom(usize),
+}
+
+impl IntegerWritten {
+    // The answer's number: 0 where bytes were written.
+    pub fn number(self) -> u32
+        ensures { λ r. ⌜ r ≡ numberIn (integerWritten self) ⌝ }
+    {
+        match self {
+            IntegerWritten::Bytes(_) => 0,
+            IntegerWritten::NoRoom(_) => 13,
+        }
+    }
 }
 
 // Writes o at the start of out.
@@ -54,14 +80,16 @@ pub fn write_dict_integer(z: i32, out: &mut [u8]) -> IntegerWritten
 }
 
 // A written number: its first byte, and how many bytes of which number follow it.
-struct Form {
-    first: u8,
-    after: usize,
-    rest: u32,
+pub struct Form {
+    pub first: u8,
+    pub after: usize,
+    pub rest: u32,
 }
 
-enum Coded {
+// The form of an operand.
+pub enum Coded {
     Is(Form),
+    // An integer outside 16 bits.
     Outside,
 }
 
@@ -79,7 +107,8 @@ fn store(form: Form, out: &mut [u8]) -> bool
     true
 }
 
-fn charstring_form(o: Operand) -> Coded
+// The shortest form of o in a charstring.
+pub fn charstring_form(o: Operand) -> Coded
     ensures { λ r. ⌜ coded r ≡ spell charstringRows o ⌝ }
 {
     if o.fixed {
