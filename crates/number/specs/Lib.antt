@@ -12,3 +12,4 @@ pub mod Code
 pub mod CallLaws
 pub mod RoundTrip
 pub mod KeptLaws
+pub mod Examples

@@ -16,7 +16,7 @@ use Rattle.number.specs.BigEndianLaws.{length-bytes, and-false}
 use Rattle.number.specs.Signed.{unsigned}
 use Rattle.number.specs.Number.{Value, near, above, below, twos, Row, row32, row247, row251, row28, row29, row255, integerRows, lastRow, rowsOf}
 use Rattle.number.specs.NumberLaws.{Every, fours}
-use Rattle.number.specs.Written.{integer, has, form, formBy, spell, bytes, write, coded}
+use Rattle.number.specs.Written.{integer, has, form, formBy, spell, bytes, bytesBy, spelling, write, coded}
 use Rattle.number.specs.Code.{Kept, kept, storeForm}
 use Rattle.number.specs.declared.Operand.{Operand}
 use Rattle.number.specs.declared.write.Form.{Form}
@@ -224,6 +224,26 @@ after-le dict o f e =
 pub length-form : (f : Form) → length (bytes f) ≡ f .after + 1
 unfolding bytes
 length-form f = ap suc (length-bytes (f .after) (f .rest)) ∙ sym (add-one (f .after))
+
+-- what the answer of `charstring_form` says of the operand's bytes
+module _ (dict : Bool) (o : Operand) (x : Coded) (e : coded x ≡ spell (rowsOf dict) o) where
+  pub coded-none : x ≡ Outside → [] ≡ spelling (rowsOf dict) o
+  unfolding spelling bytesBy
+  coded-none q = ap (λ (y : Coded). bytesBy (coded y)) (sym q) ∙ ap bytesBy e
+
+  module _ (f : Form) (q : x ≡ Is f) where
+    pub coded-is : accepted f ≡ spell (rowsOf dict) o
+    coded-is = ap coded (sym q) ∙ e
+
+    pub coded-bytes : bytes f ≡ spelling (rowsOf dict) o
+    unfolding spelling bytesBy
+    coded-bytes = ap bytesBy coded-is
+
+    pub coded-length : f .after + 1 ≡ length (spelling (rowsOf dict) o)
+    coded-length = sym (length-form f) ∙ ap length coded-bytes
+
+    pub coded-after : f .after ≤ 4
+    coded-after = after-le dict o f coded-is
 
 module _ (rows : List Row) (o : Operand) (out : List ℕ) where
   pub write-refused : refused 17 alone ≡ spell rows o → record { answer = refused 17 alone; left = out } ≡ write rows o out
