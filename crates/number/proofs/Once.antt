@@ -208,11 +208,13 @@ pub number-read-once : (κs : Lfts 0) (a : Dens κs number-read-kinds.ps) (r r�
 number-read-once κs a r r′ x x′ p p′ = p ∙ sym p′
 
 pub number-written-once : (κs : Lfts 0) (a : Dens κs number-written-kinds.ps) (r r′ : resT number-written-kinds.r κs .Denot)
-    (x x′ : AtExit (endedOf 0 number-written-kinds.ps number-written-kinds.r) κs) → number-written-reads.Post κs a r x → number-written-reads.Post κs a r′ x′ → r ≡ r′
+    (x x′ : AtExit (endedOf 0 number-written-kinds.ps number-written-kinds.r) κs)
+    → number-written-reads.Post κs a r x → number-written-reads.Post κs a r′ x′ → r ≡ r′
 number-written-once κs a r r′ x x′ p p′ = p ∙ sym p′
 
 pub integer-written-once : (κs : Lfts 0) (a : Dens κs integer-written-kinds.ps) (r r′ : resT integer-written-kinds.r κs .Denot)
-    (x x′ : AtExit (endedOf 0 integer-written-kinds.ps integer-written-kinds.r) κs) → integer-written-reads.Post κs a r x → integer-written-reads.Post κs a r′ x′ → r ≡ r′
+    (x x′ : AtExit (endedOf 0 integer-written-kinds.ps integer-written-kinds.r) κs)
+    → integer-written-reads.Post κs a r x → integer-written-reads.Post κs a r′ x′ → r ≡ r′
 integer-written-once κs a r r′ x x′ p p′ = p ∙ sym p′
 
 pub whole-once : (κs : Lfts 0) (a : Dens κs whole-kinds.ps) (r r′ : resT whole-kinds.r κs .Denot)
@@ -220,5 +222,6 @@ pub whole-once : (κs : Lfts 0) (a : Dens κs whole-kinds.ps) (r r′ : resT who
 whole-once κs a r r′ x x′ p p′ = p ∙ sym p′
 
 pub callee-once : (κs : Lfts 0) (a : Dens κs callee-number-kinds.ps) (r r′ : resT callee-number-kinds.r κs .Denot)
-    (x x′ : AtExit (endedOf 0 callee-number-kinds.ps callee-number-kinds.r) κs) → callee-number-reads.Post κs a r x → callee-number-reads.Post κs a r′ x′ → r ≡ r′
+    (x x′ : AtExit (endedOf 0 callee-number-kinds.ps callee-number-kinds.r) κs)
+    → callee-number-reads.Post κs a r x → callee-number-reads.Post κs a r′ x′ → r ≡ r′
 callee-once κs a r r′ x x′ p p′ = p ∙ sym p′

@@ -74,7 +74,8 @@ unfolding beAt bytesOf
 be-bytes zero v p rest h = sym (lt-one h)
 be-bytes (suc k) v p rest h =
     rw (append-assoc (bytesOf k (v / 256)) (v % 256 ∷ []) rest, be-bytes k (v / 256) p (v % 256 ∷ rest) (shorter k v h))
-    (ap (λ (b : ℕ). v / 256 * 256 + b) (getD-append-add p (bytesOf k (v / 256) ++ v % 256 ∷ rest) k 0 ∙ getD-at (bytesOf k (v / 256)) (v % 256) rest 0 k (length-bytes k (v / 256)))
+    (ap (λ (b : ℕ). v / 256 * 256 + b) (getD-append-add p (bytesOf k (v / 256) ++ v % 256 ∷ rest) k 0
+    ∙ getD-at (bytesOf k (v / 256)) (v % 256) rest 0 k (length-bytes k (v / 256)))
     ∙ div-add-mod' v 256)
 
 -- ---- whether there are so many bytes

@@ -65,7 +65,9 @@ module _ (dict : Bool) (s : List ℕ) (bytes-of-s : (i : ℕ) → getD s i 0 < 2
       let q : r .by .after ≡ k = omega (arith, r .width) in
       let b = getD s 0 0 in
       let on-it = row-range b (r .by) (rowsOf dict) (r .found) in
-      let f = every-found Kept (r .by) b (rowsOf dict) (kept dict) (r .found) (omega arith) b (beAt s 1 (r .by .after)) (on-it .0) (on-it .1) (be-lt s 1 (r .by .after) bytes-of-s) in
+      let v = beAt s 1 (r .by .after) in
+      let small = be-lt s 1 (r .by .after) bytes-of-s in
+      let f = every-found Kept (r .by) b (rowsOf dict) (kept dict) (r .found) (omega arith) b v (on-it .0) (on-it .1) small in
       let g = table-left (operandBy (r .by) b (beAt s 1 (r .by .after))) dict _ f in
       rw (r .operand, ← g) (ap (λ (n : ℕ). bytes (form b n (beAt s 1 n))) q)
 
@@ -75,4 +77,7 @@ module _ (dict : Bool) (s : List ℕ) (bytes-of-s : (i : ℕ) → getD s i 0 < 2
 
   pub two-kept : x .width ≡ 2 → spelling (rowsOf dict) (x .operand) ≡ getD s 0 0 ∷ getD s 1 0 ∷ []
   unfolding bytes bytesOf beAt
-  two-kept w = let small = bytes-of-s 1 in let q : (0 * 256 + getD s 1 0) % 256 ≡ getD s 1 0 = omega arith in as-read 1 w (omega arith) ∙ ap (λ (n : ℕ). getD s 0 0 ∷ n ∷ []) q
+  two-kept w =
+      let small = bytes-of-s 1 in
+      let q : (0 * 256 + getD s 1 0) % 256 ≡ getD s 1 0 = omega arith in
+      as-read 1 w (omega arith) ∙ ap (λ (n : ℕ). getD s 0 0 ∷ n ∷ []) q

@@ -13,7 +13,8 @@ use Rattle.number.specs.Answer.{Answer, accepted, refused, alone}
 use Rattle.number.specs.BigEndian.{beAt}
 use Rattle.number.specs.BigEndianLaws.{and-false, both}
 use Rattle.number.specs.Signed.{signed}
-use Rattle.number.specs.Number.{Row, row32, row247, row251, row28, integerRows, lastRow, rowsOf, Found, row, noRow, on, rowOf, pairOf, valueBy, operandBy, Number, numberBy, readBy}
+use Rattle.number.specs.Number.{Row, row32, row247, row251, row28, integerRows, lastRow, rowsOf}
+use Rattle.number.specs.Number.{Found, row, noRow, on, rowOf, pairOf, valueBy, operandBy, Number, numberBy, readBy}
 use Rattle.number.specs.Code.{afterOf, widthOf, operandOf}
 use Rattle.number.specs.declared.Operand.{Operand}
 use Rattle.number.specs.declared.read.After.the-variants.{Bytes, Nothing}

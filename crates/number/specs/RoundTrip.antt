@@ -18,7 +18,8 @@ use Rattle.number.specs.BigEndian.{beAt, bytesOf}
 use Rattle.number.specs.BigEndianLaws.{be-lt, be-bytes, length-bytes, both}
 use Rattle.number.specs.Signed.{signed, unsigned}
 use Rattle.number.specs.SignedLaws.{signed-unsigned, unsigned-lt, mag-signed}
-use Rattle.number.specs.Number.{Value, near, above, below, twos, Row, row32, row247, row251, row28, row29, row255, integerRows, lastRow, rowsOf, charstringRows, Found, row, noRow, on, rowOf, pairOf, valueBy, operandBy, Number, numberBy, readBy}
+use Rattle.number.specs.Number.{Value, near, above, below, twos, Row, row32, row247, row251, row28, row29, row255, integerRows, lastRow, rowsOf}
+use Rattle.number.specs.Number.{charstringRows, Found, row, noRow, on, rowOf, pairOf, valueBy, operandBy, Number, numberBy, readBy}
 use Rattle.number.specs.NumberLaws.{Every, every-found, row-range, at-near, at-above, at-below, at-short, at-last, read-some}
 use Rattle.number.specs.Written.{same, has, form, formBy, spell, bytes, bytesBy, spelling}
 use Rattle.number.specs.WrittenLaws.{less-139, after-form, spell-here, spell-past, spelled, length-form, after-le}
@@ -216,7 +217,13 @@ module _ (rows : List Row) (s : List ℕ) (x : Number) where
       → ByRow rows s x
   by-room r true h f e =
       let q : x ≡ record { operand = operandBy r (getD s 0 0) (beAt s 1 (r .after)); width = r .after + 1 } = cc in
-      record { by = r; found = f; there = ltb-true (r .after) (length s) h; operand = ap (λ (n : Number). n .operand) q; width = ap (λ (n : Number). n .width) q }
+      record {
+        by = r;
+        found = f;
+        there = ltb-true (r .after) (length s) h;
+        operand = ap (λ (n : Number). n .operand) q;
+        width = ap (λ (n : Number). n .width) q;
+      }
   by-room r false h f e = let z : _≡_ {A = ℕ} 0 1 = cc in absurd (omega arith)
 
   by-found : (f : Found) → rowOf (getD s 0 0) rows ≡ f → accepted x ≡ numberBy f s → ByRow rows s x
@@ -376,5 +383,6 @@ spelling-most dict o = go (spell (rowsOf dict) o) refl
     go (refused n v) e = zero-le
 
 -- an operand that was read can be written
-pub read-spellable : (dict : Bool) (s : List ℕ) → ((i : ℕ) → getD s i 0 < 256) → (x : Number) → accepted x ≡ readBy (rowsOf dict) s → Spellable dict (x .operand)
+pub read-spellable : (dict : Bool) (s : List ℕ) → ((i : ℕ) → getD s i 0 < 256) → (x : Number)
+    → accepted x ≡ readBy (rowsOf dict) s → Spellable dict (x .operand)
 read-spellable dict s bytes-of-s x e = let t = shortest dict s bytes-of-s x e in record { form = t .form; is = t .is }

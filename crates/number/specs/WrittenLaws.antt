@@ -122,11 +122,13 @@ module _ (n : ℕ) where
 
 -- ---- a table's last row
 
-cond-form : (t : Bool) (g f : Form) (x y : Answer Form) → accepted f ≡ cond t (accepted g) x → (accepted f ≡ x → accepted f ≡ y) → accepted f ≡ cond t (accepted g) y
+cond-form : (t : Bool) (g f : Form) (x y : Answer Form) → accepted f ≡ cond t (accepted g) x
+    → (accepted f ≡ x → accepted f ≡ y) → accepted f ≡ cond t (accepted g) y
 cond-form true g f x y e k = e
 cond-form false g f x y e k = k e
 
-cond-refused : (t : Bool) (g : Form) (x y z : Answer Form) → refused 17 alone ≡ cond t (accepted g) x → (refused 17 alone ≡ x → z ≡ y) → z ≡ cond t (accepted g) y
+cond-refused : (t : Bool) (g : Form) (x y z : Answer Form) → refused 17 alone ≡ cond t (accepted g) x
+    → (refused 17 alone ≡ x → z ≡ y) → z ≡ cond t (accepted g) y
 cond-refused true g x y z e k = let w : _≡_ {A = ℕ} 0 1 = cc in absurd (omega arith)
 cond-refused false g x y z e k = k e
 
@@ -168,7 +170,8 @@ module _ (o : Operand) where
   pub charstring-integer : (x : Coded) → o .fixed ≡ false → coded x ≡ spell integerRows (integer (o .value)) → coded x ≡ spell (rowsOf false) o
   charstring-integer (Is f) t e = table-left o false f (subst (λ (b : Bool). accepted f ≡ spell integerRows (record { fixed = b; value = o .value })) (sym t) e)
   charstring-integer Outside t e =
-      let e′ : refused 17 alone ≡ spell integerRows o = subst (λ (b : Bool). refused 17 alone ≡ spell integerRows (record { fixed = b; value = o .value })) (sym t) e in
+      let kind : Bool → Operand = λ (b : Bool). record { fixed = b; value = o .value } in
+      let e′ : refused 17 alone ≡ spell integerRows o = subst (λ (b : Bool). refused 17 alone ≡ spell integerRows (kind b)) (sym t) e in
       spell-none o ∙ spell-past row255 [] o (rw t) ∙ table-right o false e′
 
   -- no row of the integers has a Fixed
