@@ -73,10 +73,10 @@ pub be-bytes : (k v : ℕ) (p rest : List ℕ) → v < 2 ^ (8 * k) → beAt (p +
 unfolding beAt bytesOf
 be-bytes zero v p rest h = sym (lt-one h)
 be-bytes (suc k) v p rest h =
-    rw (append-assoc (bytesOf k (v / 256)) (v % 256 ∷ []) rest, be-bytes k (v / 256) p (v % 256 ∷ rest) (shorter k v h))
-    (ap (λ (b : ℕ). v / 256 * 256 + b) (getD-append-add p (bytesOf k (v / 256) ++ v % 256 ∷ rest) k 0
-    ∙ getD-at (bytesOf k (v / 256)) (v % 256) rest 0 k (length-bytes k (v / 256)))
-    ∙ div-add-mod' v 256)
+    let high = bytesOf k (v / 256) in
+    let byte = getD-append-add p (high ++ v % 256 ∷ rest) k 0 ∙ getD-at high (v % 256) rest 0 k (length-bytes k (v / 256)) in
+    rw (append-assoc high (v % 256 ∷ []) rest, be-bytes k (v / 256) p (v % 256 ∷ rest) (shorter k v h))
+    (ap (λ (b : ℕ). v / 256 * 256 + b) byte ∙ div-add-mod' v 256)
 
 -- ---- whether there are so many bytes
 
