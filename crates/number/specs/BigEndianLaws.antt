@@ -1,8 +1,8 @@
 -- The laws of big-endian numbers, over the width. Assumes nothing.
-use mathlib.Core.Path.{_≡_, refl, sym, ap, subst, _∙_}
+use mathlib.Core.Path.{_≡_, refl, sym, ap, _∙_}
 use mathlib.Core.Bool.{Bool, true, false, cond, _&&_}
 use mathlib.Core.List.{List, [], _∷_, _++_, append-assoc}
-use Prim.Native.Nat.{ℕ, zero, suc, _+_, _-_, _*_, _/_, _%_, _<_, _≤_, _^_}
+use Prim.Native.Nat.{ℕ, zero, suc, _+_, _*_, _/_, _%_, _<_, _≤_, _^_}
 use native.Mathlib.Numerals.{add-one}
 use native.Mathlib.Nat.{lt-of-lt-of-le, le-of-lt, add-zero, le-add-right, add-suc, div-lt-iff-lt-mul, div-add-mod'}
 use native.Mathlib.Omega.{arith}
@@ -14,7 +14,6 @@ use lib.Seq.{set-split, drop-at, length-take-le, take-set-le, getD-append-add, g
 use borrow.Author.Tests.{le-leb, lt-leb, leb-true, leb-false}
 use Rattle.number.specs.Answer.{Outcome}
 use Rattle.number.specs.BigEndian.{beAt, bytesOf, putAt, holds, bigAt, storedAt}
-use Rattle.number.specs.declared.big_endian.Big.{Big}
 use Rattle.number.specs.declared.big_endian.Big.the-variants.{Value, Lacking}
 use Rattle.number.specs.declared.big_endian.Stored.{Stored}
 use Rattle.number.specs.declared.big_endian.Stored.the-variants.{Done, NoRoom}

@@ -1,5 +1,5 @@
 -- A number that was read in one byte or in two is in its shortest form: it is written in the bytes that it was read from. Assumes nothing.
-use mathlib.Core.Path.{_≡_, sym, ap, subst, _∙_}
+use mathlib.Core.Path.{_≡_, ap, _∙_}
 use mathlib.Core.List.{List, [], _∷_}
 use mathlib.Core.Bool.{Bool, true, false}
 use Prim.Native.Nat.{ℕ, zero, suc, _+_, _-_, _*_, _/_, _%_, _<_, _≤_, _^_}
@@ -15,7 +15,7 @@ use Rattle.number.specs.Number.{Row, row32, row247, row251, integerRows,
 use Rattle.number.specs.NumberLaws.{Every, every-found, row-range}
 use Rattle.number.specs.Written.{integer, form, spell, bytes, bytesBy, spelling}
 use Rattle.number.specs.WrittenLaws.{up-one, up-two, down-one, down-two, table-left}
-use Rattle.number.specs.RoundTrip.{ByRow, read-row}
+use Rattle.number.specs.RoundTrip.{read-row}
 
 -- a row of one byte or two writes what it reads, a first byte b and v after it
 abbrev Kept : Row → Type 0

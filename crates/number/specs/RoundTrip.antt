@@ -2,11 +2,10 @@
 -- a number is that was read. Assumes nothing.
 use mathlib.Core.Path.{_≡_, refl, sym, ap, subst, _∙_}
 use mathlib.Core.List.{List, [], _∷_, _++_}
-use mathlib.Core.Bool.{Bool, true, false, cond, not, _&&_}
+use mathlib.Core.Bool.{Bool, true, false, cond, _&&_}
 use Prim.Native.Nat.{ℕ, zero, suc, _+_, _-_, _*_, _/_, _%_, _<_, _≤_, _^_, zero-le}
 use native.Mathlib.Decide.{decLt}
-use native.Mathlib.Nat.{le-refl, add-comm}
-use native.Mathlib.Numerals.{add-one}
+use native.Mathlib.Nat.{le-refl}
 use native.Mathlib.Omega.{arith}
 use lib.Dec.{leb, ltb, eqb, lit<, lit≤}
 use lib.IntN.{ℤ, pos, negsuc, negℤ, subℕ}
@@ -16,9 +15,9 @@ use borrow.Author.Tests.{lt-ltb, le-ltb, le-leb, leb-true, ltb-true}
 use Rattle.number.specs.Answer.{Answer, accepted, refused, alone}
 use Rattle.number.specs.BigEndian.{beAt, bytesOf}
 use Rattle.number.specs.BigEndianLaws.{be-lt, be-bytes, length-bytes, both}
-use Rattle.number.specs.Signed.{signed, unsigned}
+use Rattle.number.specs.Signed.{signed}
 use Rattle.number.specs.SignedLaws.{signed-unsigned, unsigned-lt, mag-signed}
-use Rattle.number.specs.Number.{Value, near, above, below, twos, Row, row32, row247, row251, row28, row29, row255, integerRows, lastRow, rowsOf}
+use Rattle.number.specs.Number.{near, above, below, twos, Row, row32, row247, row251, row28, row29, row255, integerRows, lastRow, rowsOf}
 use Rattle.number.specs.Number.{charstringRows, Found, row, noRow, on, rowOf, pairOf, valueBy, operandBy, Number, numberBy, readBy}
 use Rattle.number.specs.NumberLaws.{Every, every-found, row-range, at-near, at-above, at-below, at-short, at-last, read-some}
 use Rattle.number.specs.Written.{same, has, form, formBy, spell, bytes, bytesBy, spelling}

@@ -1,8 +1,8 @@
 -- Numbers written: in the first row of the table that has the operand, and so in the shortest form (`shortest` of RoundTrip.antt).
 use Prim.Native.Nat.{ℕ, _+_, _-_, _*_, _/_, _%_, _^_}
 use mathlib.Core.Bool.{Bool, true, false, cond, not, _&&_}
-use mathlib.Core.List.{List, [], _∷_, _++_}
-use lib.IntN.{ℤ, pos, negsuc, natAbs, _+ℤ_}
+use mathlib.Core.List.{List, [], _∷_}
+use lib.IntN.{ℤ, pos, natAbs, _+ℤ_}
 use lib.Signed.{leZ}
 use Rattle.number.specs.Answer.{Answer, accepted, refused, alone, needing, mapped, Outcome, sized, into}
 use Rattle.number.specs.BigEndian.{bytesOf}

@@ -1,5 +1,6 @@
-// Numbers of CFF data: operands read and written, big-endian numbers of up to four bytes, and the
-// entry that a call's operand names. After subsetter's src/cff/number.rs and subroutines.rs.
+// Numbers of CFF data: operands read, spelled and written, big-endian numbers of up to four bytes, the
+// 32 bits of a signed number, and the entry that a call's operand names. After subsetter's
+// src/cff/number.rs and subroutines.rs.
 //
 // No public function has a `requires`: each answers every input, and its contract says with what.
 mod big_endian;

@@ -1,4 +1,4 @@
-// Writing a number at the start of lent room, in its shortest form.
+// A number in its shortest form: the form itself, and writing it at the start of lent room.
 use crate::Operand;
 use crate::big_endian::put_be;
 use crate::signed::Half;
@@ -53,6 +53,34 @@ impl IntegerWritten {
     }
 }
 
+// A written number: its first byte, then the `after` low bytes of `rest`, the most significant first.
+pub struct Form {
+    pub first: u8,
+    pub after: usize,
+    pub rest: u32,
+}
+
+// The form of an operand.
+pub enum Coded {
+    Is(Form),
+    // An integer outside 16 bits.
+    Outside,
+}
+
+// The shortest form of o in a charstring.
+pub fn charstring_form(o: Operand) -> Coded
+    ensures { λ r. ⌜ coded r ≡ spell charstringRows o ⌝ }
+{
+    if o.fixed {
+        return Coded::Is(Form {
+            first: 255,
+            after: 4,
+            rest: bits_of(o.value),
+        });
+    }
+    integer_form(o.value)
+}
+
 // Writes o at the start of out.
 pub fn write_charstring_number(o: Operand, out: &mut [u8]) -> NumberWritten
     ensures { λ r. ⌜ record { answer = numberWritten r; left = now (out .exit) } ≡ write charstringRows o (now (out .entry)) ⌝ }
@@ -79,20 +107,6 @@ pub fn write_dict_integer(z: i32, out: &mut [u8]) -> IntegerWritten
     IntegerWritten::NoRoom(length)
 }
 
-// A written number: its first byte, and how many bytes of which number follow it.
-pub struct Form {
-    pub first: u8,
-    pub after: usize,
-    pub rest: u32,
-}
-
-// The form of an operand.
-pub enum Coded {
-    Is(Form),
-    // An integer outside 16 bits.
-    Outside,
-}
-
 // Writes a form at the start of out where there is room for it, and says whether there was.
 fn store(form: Form, out: &mut [u8]) -> bool
     requires { ⌜ form .after ≤ 4 ⌝ }
@@ -107,20 +121,7 @@ fn store(form: Form, out: &mut [u8]) -> bool
     true
 }
 
-// The shortest form of o in a charstring.
-pub fn charstring_form(o: Operand) -> Coded
-    ensures { λ r. ⌜ coded r ≡ spell charstringRows o ⌝ }
-{
-    if o.fixed {
-        return Coded::Is(Form {
-            first: 255,
-            after: 4,
-            rest: bits_of(o.value),
-        });
-    }
-    integer_form(o.value)
-}
-
+// The shortest form of z in a DICT.
 fn dict_form(z: i32) -> Form
     ensures { λ r. ⌜ coded (Coded.Is r) ≡ spell dictRows (integer z) ⌝ }
 {
