@@ -94,7 +94,8 @@ module _ (z : ℤ) (f : SFits w32 z) where
     unfolding flipped
     flipped-is = toZ-ofZ flip-fits ∙ flip-is
 
-    pub flipped-casts : T (nonNeg (toZ w32 (ofZ w32 (pos 0 -ℤ toZ w32 (ofZ w32 (toZ w32 (ofZ w32 z) +ℤ pos 1)))))) × Fits w32 (natAbs (toZ w32 (ofZ w32 (pos 0 -ℤ toZ w32 (ofZ w32 (toZ w32 (ofZ w32 z) +ℤ pos 1))))))
+    pub flipped-casts : T (nonNeg (toZ w32 (ofZ w32 (pos 0 -ℤ toZ w32 (ofZ w32 (toZ w32 (ofZ w32 z) +ℤ pos 1))))))
+        × Fits w32 (natAbs (toZ w32 (ofZ w32 (pos 0 -ℤ toZ w32 (ofZ w32 (toZ w32 (ofZ w32 z) +ℤ pos 1))))))
     unfolding flipped
     flipped-casts = rw flipped-is (tt, record { fits = lt-trans (f .sfits) (lit< tt) })
 

@@ -2,7 +2,6 @@
 -- contract's own generated reading. Assumes nothing.
 use mathlib.Core.Path.{_≡_, refl, sym, ap, _∙_}
 use mathlib.Core.Bool.{cond}
-use mathlib.Core.List.{List, [], _∷_}
 use Prim.Native.Nat.{ℕ}
 use lib.Dec.{eqb}
 use lib.IntN.{ℤ}
@@ -11,7 +10,7 @@ use contract.Lifetimes.{Lfts}
 use denote.Triple.Clauses.{AtExit}
 use Rattle.number.specs.Answer.{Values, alone, atToken, needing, needingAt, Answer, accepted, refused, Outcome}
 use Rattle.number.specs.Number.{Number, numberRead}
-use Rattle.number.specs.Written.{numberWritten, integerWritten}
+use Rattle.number.specs.Written.{coded, numberWritten, integerWritten}
 use Rattle.number.specs.Call.{wholeOf, calleeOf}
 use Rattle.number.specs.declared.read.NumberRead.{NumberRead}
 use Rattle.number.specs.declared.read.NumberRead.the-variants.{Read, Lacking, NoNumber}
@@ -19,6 +18,9 @@ use Rattle.number.specs.declared.write.NumberWritten.{NumberWritten}
 use Rattle.number.specs.declared.write.NumberWritten.the-variants.{Bytes, NoRoom, Outside}
 use Rattle.number.specs.declared.write.IntegerWritten.{IntegerWritten}
 use Rattle.number.specs.declared.write.IntegerWritten.the-variants.{Bytes as Stored, NoRoom as Full}
+use Rattle.number.specs.declared.write.Form.{Form}
+use Rattle.number.specs.declared.write.Coded.{Coded}
+use Rattle.number.specs.declared.write.Coded.the-variants.{Is as Has, Outside as NoForm}
 use Rattle.number.specs.declared.call.Whole.{Whole}
 use Rattle.number.specs.declared.call.Whole.the-variants.{Is, Not}
 use Rattle.number.specs.declared.call.Callee.{Callee}
@@ -39,6 +41,22 @@ use Rattle.number.proofs.big_endian.read_be.Kinds as read-be-kinds
 use Rattle.number.proofs.big_endian.read_be.Reads as read-be-reads
 use Rattle.number.proofs.big_endian.write_be.Kinds as write-be-kinds
 use Rattle.number.proofs.big_endian.write_be.Reads as write-be-reads
+use Rattle.number.proofs.write.charstring_form.Kinds as form-kinds
+use Rattle.number.proofs.write.charstring_form.Reads as form-reads
+use Rattle.number.proofs.signed.bits_of.Kinds as bits-kinds
+use Rattle.number.proofs.signed.bits_of.Reads as bits-reads
+use Rattle.number.proofs.signed.value_of.Kinds as value-kinds
+use Rattle.number.proofs.signed.value_of.Reads as value-reads
+use Rattle.number.proofs.read.NumberRead.number.Kinds as number-read-kinds
+use Rattle.number.proofs.read.NumberRead.number.Reads as number-read-reads
+use Rattle.number.proofs.write.NumberWritten.number.Kinds as number-written-kinds
+use Rattle.number.proofs.write.NumberWritten.number.Reads as number-written-reads
+use Rattle.number.proofs.write.IntegerWritten.number.Kinds as integer-written-kinds
+use Rattle.number.proofs.write.IntegerWritten.number.Reads as integer-written-reads
+use Rattle.number.proofs.call.Whole.number.Kinds as whole-kinds
+use Rattle.number.proofs.call.Whole.number.Reads as whole-reads
+use Rattle.number.proofs.call.Callee.number.Kinds as callee-number-kinds
+use Rattle.number.proofs.call.Callee.number.Reads as callee-number-reads
 
 -- ---- an answer says which value the enum has
 
@@ -116,6 +134,18 @@ one-callee = one-of calleeOf callee-back undone
     undone NotWhole = refl
     undone Past = refl
 
+coded-back : Answer Form → Coded
+coded-back (accepted f) = Has f
+coded-back (refused n v) = NoForm
+
+one-coded : (x y : Coded) → coded x ≡ coded y → x ≡ y
+unfolding coded-back
+one-coded = one-of coded coded-back undone
+  where
+    undone : (x : Coded) → coded-back (coded x) ≡ x
+    undone (Has f) = refl
+    undone NoForm = refl
+
 answered : {A : Type 0} {x y : Outcome A} → x ≡ y → x .answer ≡ y .answer
 answered {A} e = ap (λ (o : Outcome A). o .answer) e
 
@@ -158,3 +188,40 @@ pub write-be-once : (κs : Lfts 1) (a : Dens κs write-be-kinds.ps) (r r′ : re
     (x x′ : AtExit (endedOf 1 write-be-kinds.ps write-be-kinds.r) κs)
     → write-be-reads.Post κs a r x → write-be-reads.Post κs a r′ x′ → (r ≡ r′) × (x .0 .now ≡ x′ .0 .now)
 write-be-once κs a r r′ x x′ p p′ = (answered (p ∙ sym p′), left-as (p ∙ sym p′))
+
+pub charstring-form-once : (κs : Lfts 0) (a : Dens κs form-kinds.ps) (r r′ : resT form-kinds.r κs .Denot)
+    (x x′ : AtExit (endedOf 0 form-kinds.ps form-kinds.r) κs) → form-reads.Post κs a r x → form-reads.Post κs a r′ x′ → r ≡ r′
+charstring-form-once κs a r r′ x x′ p p′ = one-coded r r′ (p ∙ sym p′)
+
+pub bits-of-once : (κs : Lfts 0) (a : Dens κs bits-kinds.ps) (r r′ : resT bits-kinds.r κs .Denot)
+    (x x′ : AtExit (endedOf 0 bits-kinds.ps bits-kinds.r) κs) → bits-reads.Post κs a r x → bits-reads.Post κs a r′ x′ → r ≡ r′
+bits-of-once κs a r r′ x x′ p p′ = p ∙ sym p′
+
+pub value-of-once : (κs : Lfts 0) (a : Dens κs value-kinds.ps) (r r′ : resT value-kinds.r κs .Denot)
+    (x x′ : AtExit (endedOf 0 value-kinds.ps value-kinds.r) κs) → value-reads.Post κs a r x → value-reads.Post κs a r′ x′ → r ≡ r′
+value-of-once κs a r r′ x x′ p p′ = p ∙ sym p′
+
+-- ---- each answer's number
+
+pub number-read-once : (κs : Lfts 0) (a : Dens κs number-read-kinds.ps) (r r′ : resT number-read-kinds.r κs .Denot)
+    (x x′ : AtExit (endedOf 0 number-read-kinds.ps number-read-kinds.r) κs) → number-read-reads.Post κs a r x → number-read-reads.Post κs a r′ x′ → r ≡ r′
+number-read-once κs a r r′ x x′ p p′ = p ∙ sym p′
+
+pub number-written-once : (κs : Lfts 0) (a : Dens κs number-written-kinds.ps) (r r′ : resT number-written-kinds.r κs .Denot)
+    (x x′ : AtExit (endedOf 0 number-written-kinds.ps number-written-kinds.r) κs)
+    → number-written-reads.Post κs a r x → number-written-reads.Post κs a r′ x′ → r ≡ r′
+number-written-once κs a r r′ x x′ p p′ = p ∙ sym p′
+
+pub integer-written-once : (κs : Lfts 0) (a : Dens κs integer-written-kinds.ps) (r r′ : resT integer-written-kinds.r κs .Denot)
+    (x x′ : AtExit (endedOf 0 integer-written-kinds.ps integer-written-kinds.r) κs)
+    → integer-written-reads.Post κs a r x → integer-written-reads.Post κs a r′ x′ → r ≡ r′
+integer-written-once κs a r r′ x x′ p p′ = p ∙ sym p′
+
+pub whole-once : (κs : Lfts 0) (a : Dens κs whole-kinds.ps) (r r′ : resT whole-kinds.r κs .Denot)
+    (x x′ : AtExit (endedOf 0 whole-kinds.ps whole-kinds.r) κs) → whole-reads.Post κs a r x → whole-reads.Post κs a r′ x′ → r ≡ r′
+whole-once κs a r r′ x x′ p p′ = p ∙ sym p′
+
+pub callee-once : (κs : Lfts 0) (a : Dens κs callee-number-kinds.ps) (r r′ : resT callee-number-kinds.r κs .Denot)
+    (x x′ : AtExit (endedOf 0 callee-number-kinds.ps callee-number-kinds.r) κs)
+    → callee-number-reads.Post κs a r x → callee-number-reads.Post κs a r′ x′ → r ≡ r′
+callee-once κs a r r′ x x′ p p′ = p ∙ sym p′

@@ -1,8 +1,8 @@
 -- The laws of big-endian numbers, over the width. Assumes nothing.
-use mathlib.Core.Path.{_≡_, refl, sym, ap, subst, _∙_}
+use mathlib.Core.Path.{_≡_, refl, sym, ap, _∙_}
 use mathlib.Core.Bool.{Bool, true, false, cond, _&&_}
 use mathlib.Core.List.{List, [], _∷_, _++_, append-assoc}
-use Prim.Native.Nat.{ℕ, zero, suc, _+_, _-_, _*_, _/_, _%_, _<_, _≤_, _^_}
+use Prim.Native.Nat.{ℕ, zero, suc, _+_, _*_, _/_, _%_, _<_, _≤_, _^_}
 use native.Mathlib.Numerals.{add-one}
 use native.Mathlib.Nat.{lt-of-lt-of-le, le-of-lt, add-zero, le-add-right, add-suc, div-lt-iff-lt-mul, div-add-mod'}
 use native.Mathlib.Omega.{arith}
@@ -14,7 +14,6 @@ use lib.Seq.{set-split, drop-at, length-take-le, take-set-le, getD-append-add, g
 use borrow.Author.Tests.{le-leb, lt-leb, leb-true, leb-false}
 use Rattle.number.specs.Answer.{Outcome}
 use Rattle.number.specs.BigEndian.{beAt, bytesOf, putAt, holds, bigAt, storedAt}
-use Rattle.number.specs.declared.big_endian.Big.{Big}
 use Rattle.number.specs.declared.big_endian.Big.the-variants.{Value, Lacking}
 use Rattle.number.specs.declared.big_endian.Stored.{Stored}
 use Rattle.number.specs.declared.big_endian.Stored.the-variants.{Done, NoRoom}
@@ -73,9 +72,10 @@ pub be-bytes : (k v : ℕ) (p rest : List ℕ) → v < 2 ^ (8 * k) → beAt (p +
 unfolding beAt bytesOf
 be-bytes zero v p rest h = sym (lt-one h)
 be-bytes (suc k) v p rest h =
-    rw (append-assoc (bytesOf k (v / 256)) (v % 256 ∷ []) rest, be-bytes k (v / 256) p (v % 256 ∷ rest) (shorter k v h))
-    (ap (λ (b : ℕ). v / 256 * 256 + b) (getD-append-add p (bytesOf k (v / 256) ++ v % 256 ∷ rest) k 0 ∙ getD-at (bytesOf k (v / 256)) (v % 256) rest 0 k (length-bytes k (v / 256)))
-    ∙ div-add-mod' v 256)
+    let high = bytesOf k (v / 256) in
+    let byte = getD-append-add p (high ++ v % 256 ∷ rest) k 0 ∙ getD-at high (v % 256) rest 0 k (length-bytes k (v / 256)) in
+    rw (append-assoc high (v % 256 ∷ []) rest, be-bytes k (v / 256) p (v % 256 ∷ rest) (shorter k v h))
+    (ap (λ (b : ℕ). v / 256 * 256 + b) byte ∙ div-add-mod' v 256)
 
 -- ---- whether there are so many bytes
 

@@ -1,7 +1,6 @@
 -- A call's operand as an index (document 01, "Numbers"), and the entry that it names (TN5176, section 16, "Local/Global Subrs INDEXes").
 use Prim.Native.Nat.{ℕ, zero, suc, _+_, _-_, _*_, _/_, _^_}
-use mathlib.Core.Bool.{Bool, true, false, cond, _||_}
-use mathlib.Core.List.{List, []}
+use mathlib.Core.Bool.{Bool, cond, _||_}
 use lib.IntN.{ℤ, pos, negsuc, negℤ, natAbs, _+ℤ_}
 use lib.Dec.{leb, ltb, eqb}
 use Rattle.number.specs.Answer.{Answer, accepted, refused, alone}

@@ -1,7 +1,6 @@
 -- The laws of a call's index and of its entry. Assumes nothing.
-use mathlib.Core.Path.{_≡_, refl, sym, ap, subst, _∙_}
-use mathlib.Core.Bool.{Bool, true, false, cond, _||_}
-use mathlib.Core.List.{List, []}
+use mathlib.Core.Path.{_≡_, refl, sym, ap, _∙_}
+use mathlib.Core.Bool.{Bool, true, false, cond}
 use mathlib.Core.Logic.{_⊎_, inl, inr}
 use Prim.Native.Nat.{ℕ, zero, suc, _+_, _-_, _*_, _/_, _<_, _≤_, _^_}
 use native.Mathlib.Nat.{zero-add, suc-add}
@@ -9,24 +8,15 @@ use native.Mathlib.Numerals.{add-one}
 use native.Mathlib.Omega.{arith}
 use lib.IntN.{ℤ, pos, negsuc, negℤ, natAbs, _+ℤ_}
 use lib.Count.{leadingZeros}
-use lib.Dec.{leb, ltb, eqb, leb·zero}
+use lib.Dec.{leb, ltb, leb·zero}
 use lib.Pow.{pow-add, shl-shr}
-use borrow.Author.Tests.{le-leb, lt-leb, lt-ltb, le-ltb, eq-eqb, ne-eqb, eqb-true}
+use borrow.Author.Tests.{le-leb, lt-leb, lt-ltb, le-ltb, ne-eqb, eqb-true}
 use Rattle.number.specs.Answer.{Values, Answer, accepted, refused, alone}
 use Rattle.number.specs.Call.{bitLength, nearest, off, counts, signedAs, callIndex, biasOf, entryOf, biased, callee}
+use Rattle.number.specs.Code.{units}
 use Rattle.number.specs.declared.Operand.{Operand}
-use Rattle.number.specs.declared.call.Part.{Part}
-use Rattle.number.specs.declared.call.Part.the-variants.{Units, Broken}
 
 -- ---- a magnitude
-
--- how many units of 65536 m counts as, or 7
-unfoldable pub units : Bool → ℕ → Answer ℕ
-units exact m = cond (counts exact m) (accepted (nearest m)) (refused 7 alone)
-
-abbrev pub partOf : Part → Answer ℕ
-partOf (Units q) = accepted q
-partOf Broken = refused 7 alone
 
 pub length-leading : (k m : ℕ) → bitLength k m + leadingZeros k m ≡ k
 unfolding bitLength leadingZeros

@@ -1,5 +1,5 @@
 -- A number that was read in one byte or in two is in its shortest form: it is written in the bytes that it was read from. Assumes nothing.
-use mathlib.Core.Path.{_≡_, sym, ap, subst, _∙_}
+use mathlib.Core.Path.{_≡_, ap, _∙_}
 use mathlib.Core.List.{List, [], _∷_}
 use mathlib.Core.Bool.{Bool, true, false}
 use Prim.Native.Nat.{ℕ, zero, suc, _+_, _-_, _*_, _/_, _%_, _<_, _≤_, _^_}
@@ -15,7 +15,7 @@ use Rattle.number.specs.Number.{Row, row32, row247, row251, integerRows,
 use Rattle.number.specs.NumberLaws.{Every, every-found, row-range}
 use Rattle.number.specs.Written.{integer, form, spell, bytes, bytesBy, spelling}
 use Rattle.number.specs.WrittenLaws.{up-one, up-two, down-one, down-two, table-left}
-use Rattle.number.specs.RoundTrip.{ByRow, read-row}
+use Rattle.number.specs.RoundTrip.{read-row}
 
 -- a row of one byte or two writes what it reads, a first byte b and v after it
 abbrev Kept : Row → Type 0
@@ -65,7 +65,9 @@ module _ (dict : Bool) (s : List ℕ) (bytes-of-s : (i : ℕ) → getD s i 0 < 2
       let q : r .by .after ≡ k = omega (arith, r .width) in
       let b = getD s 0 0 in
       let on-it = row-range b (r .by) (rowsOf dict) (r .found) in
-      let f = every-found Kept (r .by) b (rowsOf dict) (kept dict) (r .found) (omega arith) b (beAt s 1 (r .by .after)) (on-it .0) (on-it .1) (be-lt s 1 (r .by .after) bytes-of-s) in
+      let v = beAt s 1 (r .by .after) in
+      let small = be-lt s 1 (r .by .after) bytes-of-s in
+      let f = every-found Kept (r .by) b (rowsOf dict) (kept dict) (r .found) (omega arith) b v (on-it .0) (on-it .1) small in
       let g = table-left (operandBy (r .by) b (beAt s 1 (r .by .after))) dict _ f in
       rw (r .operand, ← g) (ap (λ (n : ℕ). bytes (form b n (beAt s 1 n))) q)
 
@@ -75,4 +77,7 @@ module _ (dict : Bool) (s : List ℕ) (bytes-of-s : (i : ℕ) → getD s i 0 < 2
 
   pub two-kept : x .width ≡ 2 → spelling (rowsOf dict) (x .operand) ≡ getD s 0 0 ∷ getD s 1 0 ∷ []
   unfolding bytes bytesOf beAt
-  two-kept w = let small = bytes-of-s 1 in let q : (0 * 256 + getD s 1 0) % 256 ≡ getD s 1 0 = omega arith in as-read 1 w (omega arith) ∙ ap (λ (n : ℕ). getD s 0 0 ∷ n ∷ []) q
+  two-kept w =
+      let small = bytes-of-s 1 in
+      let q : (0 * 256 + getD s 1 0) % 256 ≡ getD s 1 0 = omega arith in
+      as-read 1 w (omega arith) ∙ ap (λ (n : ℕ). getD s 0 0 ∷ n ∷ []) q

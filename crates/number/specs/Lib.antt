@@ -9,6 +9,8 @@ pub mod NumberLaws
 pub mod Written
 pub mod WrittenLaws
 pub mod Call
+pub mod Code
 pub mod CallLaws
 pub mod RoundTrip
 pub mod KeptLaws
+pub mod Examples

@@ -1,8 +1,8 @@
 -- The numbers of charstrings and DICTs: TN5176, section 4, Table 3, and TN5177, section 3.2, Table 1, as a table of data that one reader interprets.
-use Prim.Native.Nat.{ℕ, zero, suc, _+_, _-_, _*_, _^_}
+use Prim.Native.Nat.{ℕ, _+_, _-_, _*_, _^_}
 use mathlib.Core.Bool.{Bool, true, false, cond, _&&_}
 use mathlib.Core.List.{List, [], _∷_, _++_}
-use lib.IntN.{ℤ, pos, negsuc, negℤ, subℕ}
+use lib.IntN.{ℤ, pos, negℤ, subℕ}
 use lib.ListN.{length, getD}
 use lib.Dec.{leb, ltb, eqb}
 use Rattle.number.specs.Answer.{Answer, accepted, refused, alone}

@@ -1,36 +1,23 @@
 -- The laws of the tables of numbers, over both tables. Assumes nothing.
 use mathlib.Core.Path.{_≡_, refl, sym, ap, subst, _∙_}
 use mathlib.Core.List.{List, [], _∷_, _++_}
-use mathlib.Core.Bool.{Bool, true, false, cond, not, _&&_}
-use Prim.Native.Nat.{ℕ, zero, suc, _+_, _-_, _*_, _<_, _≤_, _^_, zero-le}
+use mathlib.Core.Bool.{Bool, true, false, cond, not}
+use Prim.Native.Nat.{ℕ, _+_, _*_, _<_, _≤_, _^_, zero-le}
 use native.Mathlib.Decide.{decLt}
 use native.Mathlib.Omega.{arith}
 use lib.IntN.{ℤ, pos, negℤ, subℕ}
 use lib.ListN.{length, getD}
-use lib.Dec.{leb, ltb, eqb, lit≤}
+use lib.Dec.{leb, lit≤}
 use borrow.Author.Tests.{lt-ltb, le-ltb, le-leb, lt-leb, eq-eqb, ne-eqb, leb-true}
-use Rattle.number.specs.Answer.{Answer, accepted, refused, alone}
+use Rattle.number.specs.Answer.{accepted, refused, alone}
 use Rattle.number.specs.BigEndian.{beAt}
 use Rattle.number.specs.BigEndianLaws.{and-false, both}
 use Rattle.number.specs.Signed.{signed}
-use Rattle.number.specs.Number.{Row, row32, row247, row251, row28, integerRows, lastRow, rowsOf, Found, row, noRow, on, rowOf, pairOf, valueBy, operandBy, Number, numberBy, readBy}
+use Rattle.number.specs.Number.{Row, row32, row247, row251, row28, integerRows, lastRow, rowsOf}
+use Rattle.number.specs.Number.{Found, row, noRow, on, rowOf, pairOf, valueBy, operandBy, numberBy, readBy}
+use Rattle.number.specs.Code.{afterOf, widthOf, operandOf}
 use Rattle.number.specs.declared.Operand.{Operand}
-use Rattle.number.specs.declared.read.After.{After}
 use Rattle.number.specs.declared.read.After.the-variants.{Bytes, Nothing}
-
--- ---- what the code asks of a first byte
-
-unfoldable pub afterOf : Found → After
-afterOf (row r) = Bytes (r .after)
-afterOf noRow = Nothing
-
-unfoldable pub widthOf : Found → ℕ
-widthOf (row r) = r .after
-widthOf noRow = 0
-
-unfoldable pub operandOf : Found → ℕ → ℕ → Operand
-operandOf (row r) b v = operandBy r b v
-operandOf noRow b v = record { fixed = false; value = pos 0 }
 
 -- ---- the row of a first byte
 

@@ -2,11 +2,10 @@
 -- a number is that was read. Assumes nothing.
 use mathlib.Core.Path.{_≡_, refl, sym, ap, subst, _∙_}
 use mathlib.Core.List.{List, [], _∷_, _++_}
-use mathlib.Core.Bool.{Bool, true, false, cond, not, _&&_}
+use mathlib.Core.Bool.{Bool, true, false, cond, _&&_}
 use Prim.Native.Nat.{ℕ, zero, suc, _+_, _-_, _*_, _/_, _%_, _<_, _≤_, _^_, zero-le}
 use native.Mathlib.Decide.{decLt}
-use native.Mathlib.Nat.{le-refl, add-comm}
-use native.Mathlib.Numerals.{add-one}
+use native.Mathlib.Nat.{le-refl}
 use native.Mathlib.Omega.{arith}
 use lib.Dec.{leb, ltb, eqb, lit<, lit≤}
 use lib.IntN.{ℤ, pos, negsuc, negℤ, subℕ}
@@ -16,9 +15,10 @@ use borrow.Author.Tests.{lt-ltb, le-ltb, le-leb, leb-true, ltb-true}
 use Rattle.number.specs.Answer.{Answer, accepted, refused, alone}
 use Rattle.number.specs.BigEndian.{beAt, bytesOf}
 use Rattle.number.specs.BigEndianLaws.{be-lt, be-bytes, length-bytes, both}
-use Rattle.number.specs.Signed.{signed, unsigned}
+use Rattle.number.specs.Signed.{signed}
 use Rattle.number.specs.SignedLaws.{signed-unsigned, unsigned-lt, mag-signed}
-use Rattle.number.specs.Number.{Value, near, above, below, twos, Row, row32, row247, row251, row28, row29, row255, integerRows, lastRow, rowsOf, charstringRows, Found, row, noRow, on, rowOf, pairOf, valueBy, operandBy, Number, numberBy, readBy}
+use Rattle.number.specs.Number.{near, above, below, twos, Row, row32, row247, row251, row28, row29, row255, integerRows, lastRow, rowsOf}
+use Rattle.number.specs.Number.{charstringRows, Found, row, noRow, on, rowOf, pairOf, valueBy, operandBy, Number, numberBy, readBy}
 use Rattle.number.specs.NumberLaws.{Every, every-found, row-range, at-near, at-above, at-below, at-short, at-last, read-some}
 use Rattle.number.specs.Written.{same, has, form, formBy, spell, bytes, bytesBy, spelling}
 use Rattle.number.specs.WrittenLaws.{less-139, after-form, spell-here, spell-past, spelled, length-form, after-le}
@@ -216,7 +216,13 @@ module _ (rows : List Row) (s : List ℕ) (x : Number) where
       → ByRow rows s x
   by-room r true h f e =
       let q : x ≡ record { operand = operandBy r (getD s 0 0) (beAt s 1 (r .after)); width = r .after + 1 } = cc in
-      record { by = r; found = f; there = ltb-true (r .after) (length s) h; operand = ap (λ (n : Number). n .operand) q; width = ap (λ (n : Number). n .width) q }
+      record {
+        by = r;
+        found = f;
+        there = ltb-true (r .after) (length s) h;
+        operand = ap (λ (n : Number). n .operand) q;
+        width = ap (λ (n : Number). n .width) q;
+      }
   by-room r false h f e = let z : _≡_ {A = ℕ} 0 1 = cc in absurd (omega arith)
 
   by-found : (f : Found) → rowOf (getD s 0 0) rows ≡ f → accepted x ≡ numberBy f s → ByRow rows s x
@@ -376,5 +382,6 @@ spelling-most dict o = go (spell (rowsOf dict) o) refl
     go (refused n v) e = zero-le
 
 -- an operand that was read can be written
-pub read-spellable : (dict : Bool) (s : List ℕ) → ((i : ℕ) → getD s i 0 < 256) → (x : Number) → accepted x ≡ readBy (rowsOf dict) s → Spellable dict (x .operand)
+pub read-spellable : (dict : Bool) (s : List ℕ) → ((i : ℕ) → getD s i 0 < 256) → (x : Number)
+    → accepted x ≡ readBy (rowsOf dict) s → Spellable dict (x .operand)
 read-spellable dict s bytes-of-s x e = let t = shortest dict s bytes-of-s x e in record { form = t .form; is = t .is }

@@ -1,8 +1,8 @@
 -- Numbers written: in the first row of the table that has the operand, and so in the shortest form (`shortest` of RoundTrip.antt).
 use Prim.Native.Nat.{ℕ, _+_, _-_, _*_, _/_, _%_, _^_}
 use mathlib.Core.Bool.{Bool, true, false, cond, not, _&&_}
-use mathlib.Core.List.{List, [], _∷_, _++_}
-use lib.IntN.{ℤ, pos, negsuc, natAbs, _+ℤ_}
+use mathlib.Core.List.{List, [], _∷_}
+use lib.IntN.{ℤ, pos, natAbs, _+ℤ_}
 use lib.Signed.{leZ}
 use Rattle.number.specs.Answer.{Answer, accepted, refused, alone, needing, mapped, Outcome, sized, into}
 use Rattle.number.specs.BigEndian.{bytesOf}
@@ -10,6 +10,8 @@ use Rattle.number.specs.Signed.{unsigned}
 use Rattle.number.specs.Number.{Value, near, above, below, twos, Row}
 use Rattle.number.specs.declared.Operand.{Operand}
 use Rattle.number.specs.declared.write.Form.{Form}
+use Rattle.number.specs.declared.write.Coded.{Coded}
+use Rattle.number.specs.declared.write.Coded.the-variants.{Is, Outside as NoForm}
 use Rattle.number.specs.declared.write.NumberWritten.{NumberWritten}
 use Rattle.number.specs.declared.write.NumberWritten.the-variants.{Bytes, NoRoom, Outside}
 use Rattle.number.specs.declared.write.IntegerWritten.{IntegerWritten}
@@ -61,7 +63,11 @@ spelling rows o = bytesBy (spell rows o)
 unfoldable pub write : List Row → Operand → List ℕ → Outcome (Answer ℕ)
 write rows o out = into out (mapped (λ (f : Form). sized (bytes f)) (spell rows o))
 
--- what the writers' enums say, by document 01's numbers
+-- what the enums say, by document 01's numbers
+abbrev pub coded : Coded → Answer Form
+coded (Is f) = accepted f
+coded NoForm = refused 17 alone
+
 abbrev pub numberWritten : NumberWritten → Answer ℕ
 numberWritten (Bytes n) = accepted n
 numberWritten (NoRoom n) = refused 13 (needing n)

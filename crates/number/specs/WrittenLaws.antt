@@ -2,13 +2,13 @@
 use mathlib.Core.Path.{_≡_, refl, sym, ap, subst, _∙_}
 use mathlib.Core.List.{List, [], _∷_, _++_}
 use mathlib.Core.Bool.{Bool, true, false, cond, _&&_}
-use Prim.Native.Nat.{ℕ, zero, suc, _+_, _-_, _*_, _/_, _%_, _<_, _≤_, _^_, zero-le}
+use Prim.Native.Nat.{ℕ, suc, _+_, _-_, _/_, _%_, _<_, _≤_, _^_}
 use native.Mathlib.Numerals.{add-one, one-add}
 use native.Mathlib.Omega.{arith}
 use lib.IntN.{ℤ, pos, negsuc, natAbs, _+ℤ_}
 use lib.Signed.{mag, leZ}
-use lib.ListN.{length, getD, take, drop, set}
-use lib.Dec.{leb, ltb, lit≤}
+use lib.ListN.{length, drop, set}
+use lib.Dec.{leb, ltb}
 use borrow.Author.Tests.{lt-ltb, le-ltb, le-leb, lt-leb, ltb-true, ltb-false}
 use Rattle.number.specs.Answer.{Answer, accepted, refused, Outcome, alone, needing, mapped, sized, into}
 use Rattle.number.specs.BigEndian.{bytesOf, putAt}
@@ -16,28 +16,12 @@ use Rattle.number.specs.BigEndianLaws.{length-bytes, and-false}
 use Rattle.number.specs.Signed.{unsigned}
 use Rattle.number.specs.Number.{Value, near, above, below, twos, Row, row32, row247, row251, row28, row29, row255, integerRows, lastRow, rowsOf}
 use Rattle.number.specs.NumberLaws.{Every, fours}
-use Rattle.number.specs.Written.{integer, has, form, formBy, spell, bytes, write}
+use Rattle.number.specs.Written.{integer, has, form, formBy, spell, bytes, bytesBy, spelling, write, coded}
+use Rattle.number.specs.Code.{Kept, kept, storeForm}
 use Rattle.number.specs.declared.Operand.{Operand}
 use Rattle.number.specs.declared.write.Form.{Form}
 use Rattle.number.specs.declared.write.Coded.{Coded}
 use Rattle.number.specs.declared.write.Coded.the-variants.{Is, Outside}
-
--- ---- what the code has
-
-abbrev pub coded : Coded → Answer Form
-coded (Is f) = accepted f
-coded Outside = refused 17 alone
-
--- whether a form was stored, and what is left in the room
-pub record Kept : Type 0 where
-  pub done : Bool
-  pub left : List ℕ
-
-abbrev pub kept : Bool → List ℕ → Kept
-kept t l = record { done = t; left = l }
-
-unfoldable pub storeForm : Form → List ℕ → Kept
-storeForm f out = cond (ltb (f .after) (length out)) (kept true (bytes f ++ drop (f .after + 1) out)) (kept false out)
 
 -- ---- the form of an operand, row by row
 
@@ -138,11 +122,13 @@ module _ (n : ℕ) where
 
 -- ---- a table's last row
 
-cond-form : (t : Bool) (g f : Form) (x y : Answer Form) → accepted f ≡ cond t (accepted g) x → (accepted f ≡ x → accepted f ≡ y) → accepted f ≡ cond t (accepted g) y
+cond-form : (t : Bool) (g f : Form) (x y : Answer Form) → accepted f ≡ cond t (accepted g) x
+    → (accepted f ≡ x → accepted f ≡ y) → accepted f ≡ cond t (accepted g) y
 cond-form true g f x y e k = e
 cond-form false g f x y e k = k e
 
-cond-refused : (t : Bool) (g : Form) (x y z : Answer Form) → refused 17 alone ≡ cond t (accepted g) x → (refused 17 alone ≡ x → z ≡ y) → z ≡ cond t (accepted g) y
+cond-refused : (t : Bool) (g : Form) (x y z : Answer Form) → refused 17 alone ≡ cond t (accepted g) x
+    → (refused 17 alone ≡ x → z ≡ y) → z ≡ cond t (accepted g) y
 cond-refused true g x y z e k = let w : _≡_ {A = ℕ} 0 1 = cc in absurd (omega arith)
 cond-refused false g x y z e k = k e
 
@@ -184,7 +170,8 @@ module _ (o : Operand) where
   pub charstring-integer : (x : Coded) → o .fixed ≡ false → coded x ≡ spell integerRows (integer (o .value)) → coded x ≡ spell (rowsOf false) o
   charstring-integer (Is f) t e = table-left o false f (subst (λ (b : Bool). accepted f ≡ spell integerRows (record { fixed = b; value = o .value })) (sym t) e)
   charstring-integer Outside t e =
-      let e′ : refused 17 alone ≡ spell integerRows o = subst (λ (b : Bool). refused 17 alone ≡ spell integerRows (record { fixed = b; value = o .value })) (sym t) e in
+      let kind : Bool → Operand = λ (b : Bool). record { fixed = b; value = o .value } in
+      let e′ : refused 17 alone ≡ spell integerRows o = subst (λ (b : Bool). refused 17 alone ≡ spell integerRows (kind b)) (sym t) e in
       spell-none o ∙ spell-past row255 [] o (rw t) ∙ table-right o false e′
 
   -- no row of the integers has a Fixed
@@ -240,6 +227,26 @@ after-le dict o f e =
 pub length-form : (f : Form) → length (bytes f) ≡ f .after + 1
 unfolding bytes
 length-form f = ap suc (length-bytes (f .after) (f .rest)) ∙ sym (add-one (f .after))
+
+-- what the answer of `charstring_form` says of the operand's bytes
+module _ (dict : Bool) (o : Operand) (x : Coded) (e : coded x ≡ spell (rowsOf dict) o) where
+  pub coded-none : x ≡ Outside → [] ≡ spelling (rowsOf dict) o
+  unfolding spelling bytesBy
+  coded-none q = ap (λ (y : Coded). bytesBy (coded y)) (sym q) ∙ ap bytesBy e
+
+  module _ (f : Form) (q : x ≡ Is f) where
+    pub coded-is : accepted f ≡ spell (rowsOf dict) o
+    coded-is = ap coded (sym q) ∙ e
+
+    pub coded-bytes : bytes f ≡ spelling (rowsOf dict) o
+    unfolding spelling bytesBy
+    coded-bytes = ap bytesBy coded-is
+
+    pub coded-length : f .after + 1 ≡ length (spelling (rowsOf dict) o)
+    coded-length = sym (length-form f) ∙ ap length coded-bytes
+
+    pub coded-after : f .after ≤ 4
+    coded-after = after-le dict o f coded-is
 
 module _ (rows : List Row) (o : Operand) (out : List ℕ) where
   pub write-refused : refused 17 alone ≡ spell rows o → record { answer = refused 17 alone; left = out } ≡ write rows o out

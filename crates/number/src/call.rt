@@ -5,13 +5,26 @@ use crate::signed::minus;
 use crate::signed::split;
 ghost use mathlib.Core.Path.{_≡_};
 ghost use Prim.Native.Nat.{_≤_};
+ghost use Rattle.number.specs.Answer.{numberIn};
 ghost use Rattle.number.specs.Call.{apart, biasOf, callIndex, callee, wholeOf, calleeOf};
-ghost use Rattle.number.specs.CallLaws.{units, partOf};
+ghost use Rattle.number.specs.Code.{units, partOf};
 
 // An operand as an index.
 pub enum Whole {
     Is(i32),
     Not,
+}
+
+impl Whole {
+    // The answer's number: 0 where the operand is an index.
+    pub fn number(self) -> u32
+        ensures { λ r. ⌜ r ≡ numberIn (wholeOf self) ⌝ }
+    {
+        match self {
+            Whole::Is(_) => 0,
+            Whole::Not => 7,
+        }
+    }
 }
 
 // The entry that a call enters.
@@ -21,6 +34,19 @@ pub enum Callee {
     NotWhole,
     // No entry has this number.
     Outside,
+}
+
+impl Callee {
+    // The answer's number: 0 where there is an entry.
+    pub fn number(self) -> u32
+        ensures { λ r. ⌜ r ≡ numberIn (calleeOf self) ⌝ }
+    {
+        match self {
+            Callee::Entry(_) => 0,
+            Callee::NotWhole => 7,
+            Callee::Outside => 9,
+        }
+    }
 }
 
 // The index that o is. Where `exact` is false a Fixed is taken as the Rust takes it, through f32.

@@ -1,5 +1,6 @@
-// Numbers of CFF data: operands read and written, big-endian numbers of up to four bytes, and the
-// entry that a call's operand names. After subsetter's src/cff/number.rs and subroutines.rs.
+// Numbers of CFF data: operands read, spelled and written, big-endian numbers of up to four bytes, the
+// 32 bits of a signed number, and the entry that a call's operand names. After subsetter's
+// src/cff/number.rs and subroutines.rs.
 //
 // No public function has a `requires`: each answers every input, and its contract says with what.
 mod big_endian;
@@ -19,8 +20,13 @@ pub use crate::call::callee_of;
 pub use crate::read::NumberRead;
 pub use crate::read::read_charstring_number;
 pub use crate::read::read_dict_integer;
+pub use crate::signed::bits_of;
+pub use crate::signed::value_of;
+pub use crate::write::Coded;
+pub use crate::write::Form;
 pub use crate::write::IntegerWritten;
 pub use crate::write::NumberWritten;
+pub use crate::write::charstring_form;
 pub use crate::write::write_charstring_number;
 pub use crate::write::write_dict_integer;
 

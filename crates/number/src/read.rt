@@ -6,8 +6,9 @@ use crate::signed::signed_value;
 ghost use mathlib.Core.Path.{_≡_};
 ghost use mathlib.Core.Bool.{false};
 ghost use Prim.Native.Nat.{_*_, _<_, _^_};
+ghost use Rattle.number.specs.Answer.{numberIn};
 ghost use Rattle.number.specs.Number.{charstringRows, dictRows, rowsOf, lastRow, rowOf, readBy, numberRead};
-ghost use Rattle.number.specs.NumberLaws.{afterOf, widthOf, operandOf};
+ghost use Rattle.number.specs.Code.{afterOf, widthOf, operandOf};
 
 // What reading a number finds.
 pub enum NumberRead {
@@ -17,6 +18,19 @@ pub enum NumberRead {
     Lacking,
     // The first byte starts no number.
     NoNumber,
+}
+
+impl NumberRead {
+    // The answer's number: 0 where a number was read.
+    pub fn number(self) -> u32
+        ensures { λ r. ⌜ r ≡ numberIn (numberRead self) ⌝ }
+    {
+        match self {
+            NumberRead::Read(_, _) => 0,
+            NumberRead::Lacking => 4,
+            NumberRead::NoNumber => 6,
+        }
+    }
 }
 
 // The number at the start of a part of a charstring.

@@ -55,11 +55,18 @@ pub(crate) fn signed_value(v: u32, half: u64) -> i32
 }
 
 // The 32 bits of z.
-pub(crate) fn bits_of(z: i32) -> u32
+pub fn bits_of(z: i32) -> u32
     ensures { λ r. ⌜ r ≡ unsigned (2 ^ 31) z ⌝ }
 {
     match split(z) {
         Half::Up(n) => n,
         Half::Down(n) => 4294967295 - n,
     }
+}
+
+// The number whose 32 bits these are.
+pub fn value_of(bits: u32) -> i32
+    ensures { λ r. ⌜ r ≡ signed (2 ^ 31) bits ⌝ }
+{
+    signed_value(bits, 2147483648)
 }

@@ -1,4 +1,4 @@
-// Writing a number at the start of lent room, in its shortest form.
+// A number in its shortest form: the form itself, and writing it at the start of lent room.
 use crate::Operand;
 use crate::big_endian::put_be;
 use crate::signed::Half;
@@ -7,9 +7,10 @@ use crate::signed::split;
 ghost use mathlib.Core.Path.{_≡_};
 ghost use Prim.Native.Nat.{_≤_};
 ghost use lib.IntN.{pos, negsuc};
+ghost use Rattle.number.specs.Answer.{numberIn};
 ghost use Rattle.number.specs.Number.{charstringRows, dictRows, integerRows};
-ghost use Rattle.number.specs.Written.{integer, spell, write, numberWritten, integerWritten};
-ghost use Rattle.number.specs.WrittenLaws.{coded, kept, storeForm};
+ghost use Rattle.number.specs.Written.{integer, spell, write, coded, numberWritten, integerWritten};
+ghost use Rattle.number.specs.Code.{kept, storeForm};
 
 // What writing a charstring number did.
 pub enum NumberWritten {
@@ -21,10 +22,63 @@ pub enum NumberWritten {
     Outside,
 }
 
+impl NumberWritten {
+    // The answer's number: 0 where bytes were written.
+    pub fn number(self) -> u32
+        ensures { λ r. ⌜ r ≡ numberIn (numberWritten self) ⌝ }
+    {
+        match self {
+            NumberWritten::Bytes(_) => 0,
+            NumberWritten::NoRoom(_) => 13,
+            NumberWritten::Outside => 17,
+        }
+    }
+}
+
 // What writing a DICT integer did.
 pub enum IntegerWritten {
     Bytes(usize),
     NoRoom(usize),
+}
+
+impl IntegerWritten {
+    // The answer's number: 0 where bytes were written.
+    pub fn number(self) -> u32
+        ensures { λ r. ⌜ r ≡ numberIn (integerWritten self) ⌝ }
+    {
+        match self {
+            IntegerWritten::Bytes(_) => 0,
+            IntegerWritten::NoRoom(_) => 13,
+        }
+    }
+}
+
+// A written number: its first byte, then the `after` low bytes of `rest`, the most significant first.
+pub struct Form {
+    pub first: u8,
+    pub after: usize,
+    pub rest: u32,
+}
+
+// The form of an operand.
+pub enum Coded {
+    Is(Form),
+    // An integer outside 16 bits.
+    Outside,
+}
+
+// The shortest form of o in a charstring.
+pub fn charstring_form(o: Operand) -> Coded
+    ensures { λ r. ⌜ coded r ≡ spell charstringRows o ⌝ }
+{
+    if o.fixed {
+        return Coded::Is(Form {
+            first: 255,
+            after: 4,
+            rest: bits_of(o.value),
+        });
+    }
+    integer_form(o.value)
 }
 
 // Writes o at the start of out.
@@ -53,18 +107,6 @@ pub fn write_dict_integer(z: i32, out: &mut [u8]) -> IntegerWritten
     IntegerWritten::NoRoom(length)
 }
 
-// A written number: its first byte, and how many bytes of which number follow it.
-struct Form {
-    first: u8,
-    after: usize,
-    rest: u32,
-}
-
-enum Coded {
-    Is(Form),
-    Outside,
-}
-
 // Writes a form at the start of out where there is room for it, and says whether there was.
 fn store(form: Form, out: &mut [u8]) -> bool
     requires { ⌜ form .after ≤ 4 ⌝ }
@@ -79,19 +121,7 @@ fn store(form: Form, out: &mut [u8]) -> bool
     true
 }
 
-fn charstring_form(o: Operand) -> Coded
-    ensures { λ r. ⌜ coded r ≡ spell charstringRows o ⌝ }
-{
-    if o.fixed {
-        return Coded::Is(Form {
-            first: 255,
-            after: 4,
-            rest: bits_of(o.value),
-        });
-    }
-    integer_form(o.value)
-}
-
+// The shortest form of z in a DICT.
 fn dict_form(z: i32) -> Form
     ensures { λ r. ⌜ coded (Coded.Is r) ≡ spell dictRows (integer z) ⌝ }
 {

@@ -32,8 +32,11 @@ cast-v c = omega (arith, c .shared-slice-known .given (c .before .before .before
 
 add-v-2 : tie.Need-add-v-2 Inv-loop μ-loop
 add-v-2 c =
-    omega
-    (arith, under (c .before .before .loop .i) 3 (c .before .before .loop .inv .2) (search needs), c .shared-slice-known .given (c .before .before .before .args .at + c .before .before .loop .i))
+    omega (
+      arith,
+      under (c .before .before .loop .i) 3 (c .before .before .loop .inv .2) (search needs),
+      c .shared-slice-known .given (c .before .before .before .args .at + c .before .before .loop .i),
+    )
 
 add-i : tie.Need-add-i Inv-loop μ-loop
 add-i c = omega arith

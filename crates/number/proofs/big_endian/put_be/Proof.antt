@@ -49,7 +49,9 @@ returns : tie.Need-returns Inv-loop μ-loop
 returns c =
     let l = c .before .loop in
     let e : l .j ≡ 0 = omega arith in
-    sym (put-none (l .out) (c .before .before .args .at) (l .rest)) ∙ ap (λ (m : ℕ). putAt (l .out) (c .before .before .args .at) m (l .rest)) (sym e) ∙ l .inv .2
+    sym (put-none (l .out) (c .before .before .args .at) (l .rest))
+    ∙ ap (λ (m : ℕ). putAt (l .out) (c .before .before .args .at) m (l .rest)) (sym e)
+    ∙ l .inv .2
 
 pub put-be-spec : {M : Type 1} → statement M
 put-be-spec =

@@ -1,5 +1,6 @@
 use Rattle.number.proofs.Border.{moved, up-is, down-is}
-use Rattle.number.specs.CallLaws.{units, partOf, units-are, an-integer, not-up, not-down, is-up, is-down}
+use Rattle.number.specs.Code.{units, partOf}
+use Rattle.number.specs.CallLaws.{units-are, an-integer, not-up, not-down, is-up, is-down}
 use Rattle.number.specs.SignedLaws.{less-none, none-less}
 use Rattle.number.specs.Answer.{accepted}
 use lib.Signed.{mag}
@@ -26,10 +27,16 @@ below-down : (c : tie.After-n2) → c .n2 .given .0 .0 < 2 ^ 31
 below-down c = subst (λ (z : ℤ). mag z < 2 ^ 31) (value-down c) (omega arith)
 
 -- where the units are bound
-units-up : (c : tie.After-q) → accepted (c .q .given .0 .0) ≡ units (c .before .before .before .before .before .before .before .before .before .before .args .exact) (c .before .before .before .before .n .given .0 .0)
+units-up : (c : tie.After-q)
+    → accepted (c .q .given .0 .0)
+    ≡ units (c .before .before .before .before .before .before .before .before .before .before .args .exact)
+    (c .before .before .before .before .n .given .0 .0)
 units-up c = ap partOf (sym (c .q .given .1)) ∙ c .before .before .units-of .ensures
 
-units-down : (c : tie.After-q2) → accepted (c .q2 .given .0 .0) ≡ units (c .before .before .before .before .before .before .before .before .before .before .args .exact) (c .before .before .before .before .n2 .given .0 .0 + 1)
+units-down : (c : tie.After-q2)
+    → accepted (c .q2 .given .0 .0)
+    ≡ units (c .before .before .before .before .before .before .before .before .before .before .args .exact)
+    (c .before .before .before .before .n2 .given .0 .0 + 1)
 units-down c = ap partOf (sym (c .q2 .given .1)) ∙ c .before .before .units-of2 .ensures
 
 returns : tie.Need-returns
@@ -102,14 +109,16 @@ returns-4 c =
     let at-q = c .before .before in
     let at-n = at-q .before .before .before .before in
     let at-if1 = at-n .before .before .before in
-    is-up _ _ (not-false _ (at-if1 .if1 .left)) _ _ _ (value-up at-n) (units-up at-q) (moved (c .minus .result) (c .minus .ok) (c .minus .ensures ∙ less-none _))
+    let z = moved (c .minus .result) (c .minus .ok) (c .minus .ensures ∙ less-none _) in
+    is-up _ _ (not-false _ (at-if1 .if1 .left)) _ _ _ (value-up at-n) (units-up at-q) z
 
 returns-5 : tie.Need-returns-5
 returns-5 c =
     let at-q2 = c .before .before in
     let at-n2 = at-q2 .before .before .before .before in
     let at-if1 = at-n2 .before .before .before in
-    is-down _ _ (not-false _ (at-if1 .if1 .left)) _ _ _ (value-down at-n2) (units-down at-q2) (moved (c .minus2 .result) (c .minus2 .ok) (c .minus2 .ensures ∙ none-less (at-q2 .q2 .given .0 .0)))
+    let z = moved (c .minus2 .result) (c .minus2 .ok) (c .minus2 .ensures ∙ none-less (at-q2 .q2 .given .0 .0)) in
+    is-down _ _ (not-false _ (at-if1 .if1 .left)) _ _ _ (value-down at-n2) (units-down at-q2) z
 
 pub call-index-spec : {M : Type 1} → statement M
 call-index-spec =

@@ -22,10 +22,15 @@ returns : tie.Need-returns
 returns c = at-once (c .before .before .args .exact) (c .before .before .args .m) (sym (c .before .distance .ensures) ∙ c .if1 .taken)
 
 returns-2 : tie.Need-returns-2
-returns-2 c = by-exact (c .before .before .before .args .exact) (c .before .before .before .args .m) (c .if2 .taken) (λ e. c .before .if1 .left (c .before .before .distance .ensures ∙ e))
+returns-2 c =
+    let start = c .before .before .before in
+    by-exact (start .args .exact) (start .args .m) (c .if2 .taken) (λ e. c .before .if1 .left (c .before .before .distance .ensures ∙ e))
 
 returns-3 : tie.Need-returns-3
-returns-3 c = by-length (c .before .before .before .before .args .exact) (c .before .before .before .before .args .m) (c .before .if2 .left) (λ e. c .before .before .if1 .left (c .before .before .before .distance .ensures ∙ e)) (c .if3 .taken)
+returns-3 c =
+    let start = c .before .before .before .before in
+    let at-if1 = c .before .before in
+    by-length (start .args .exact) (start .args .m) (c .before .if2 .left) (λ e. at-if1 .if1 .left (at-if1 .before .distance .ensures ∙ e)) (c .if3 .taken)
 
 mul-if4 : tie.Need-mul-if4
 mul-if4 c = search needs
@@ -46,7 +51,8 @@ returns-4 c =
     let at-if1 = at-if2 .before in
     let at-distance = at-if1 .before in
     let start = at-distance .before in
-    within (start .args .exact) (start .args .m) (at-if2 .if2 .left) (λ e. at-if1 .if1 .left (at-distance .distance .ensures ∙ e)) (at-if3 .if3 .left) (subst (λ (d : ℕ). 2 * d ≤ 256 / 2 ^ leadingZeros 32 (start .args .m)) (at-distance .distance .ensures) (c .if4 .taken))
+    let far = subst (λ (d : ℕ). 2 * d ≤ 256 / 2 ^ leadingZeros 32 (start .args .m)) (at-distance .distance .ensures) (c .if4 .taken) in
+    within (start .args .exact) (start .args .m) (at-if2 .if2 .left) (λ e. at-if1 .if1 .left (at-distance .distance .ensures ∙ e)) (at-if3 .if3 .left) far
 
 returns-5 : tie.Need-returns-5
 returns-5 c =
@@ -55,7 +61,8 @@ returns-5 c =
     let at-if1 = at-if2 .before in
     let at-distance = at-if1 .before in
     let start = at-distance .before in
-    beyond (start .args .exact) (start .args .m) (at-if2 .if2 .left) (λ e. at-if1 .if1 .left (at-distance .distance .ensures ∙ e)) (at-if3 .if3 .left) (subst (λ (d : ℕ). 256 / 2 ^ leadingZeros 32 (start .args .m) < 2 * d) (at-distance .distance .ensures) (c .if4 .left))
+    let far = subst (λ (d : ℕ). 256 / 2 ^ leadingZeros 32 (start .args .m) < 2 * d) (at-distance .distance .ensures) (c .if4 .left) in
+    beyond (start .args .exact) (start .args .m) (at-if2 .if2 .left) (λ e. at-if1 .if1 .left (at-distance .distance .ensures ∙ e)) (at-if3 .if3 .left) far
 
 pub units-of-spec : {M : Type 1} → statement M
 units-of-spec =

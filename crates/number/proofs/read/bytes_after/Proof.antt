@@ -15,7 +15,8 @@ returns-2 : tie.Need-returns-2
 returns-2 c = after-last _ _ (c .if2 .taken ∙ c .before .five-byte-form .ensures)
 
 returns-3 : tie.Need-returns-3
-returns-3 c = after-low _ _ (c .before .before .before .if1 .left) (λ e. c .before .if2 .left (e ∙ sym (c .before .before .five-byte-form .ensures))) (omega arith)
+returns-3 c =
+    after-low _ _ (c .before .before .before .if1 .left) (λ e. c .before .if2 .left (e ∙ sym (c .before .before .five-byte-form .ensures))) (omega arith)
 
 returns-4 : tie.Need-returns-4
 returns-4 c = after-near _ _ (omega arith) (omega arith)

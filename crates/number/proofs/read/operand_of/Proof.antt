@@ -23,7 +23,9 @@ integer-requires : tie.Need-integer-requires
 integer-requires c κs = search needs
 
 returns : tie.Need-returns
-returns c = c .integer .ensures ∙ valued (moved (c .before .signed-value .result) (c .before .signed-value .ok) (c .before .signed-value .ensures)) ∙ as-short _ _ _ (c .before .before .if1 .taken)
+returns c =
+    let v = c .before .signed-value in
+    c .integer .ensures ∙ valued (moved (v .result) (v .ok) (v .ensures)) ∙ as-short _ _ _ (c .before .before .if1 .taken)
 
 five-byte-form-requires : tie.Need-five-byte-form-requires
 five-byte-form-requires c κs = search needs
@@ -32,13 +34,18 @@ signed-value-requires-2 : tie.Need-signed-value-requires-2
 signed-value-requires-2 c κs = search needs
 
 returns-2 : tie.Need-returns-2
-returns-2 c = valued (moved (c .signed-value2 .result) (c .signed-value2 .ok) (c .signed-value2 .ensures)) ∙ as-last _ _ _ (c .before .if2 .taken ∙ c .before .before .five-byte-form .ensures)
+returns-2 c =
+    let v = c .signed-value2 in
+    valued (moved (v .result) (v .ok) (v .ensures)) ∙ as-last _ _ _ (c .before .if2 .taken ∙ c .before .before .five-byte-form .ensures)
 
 integer-requires-2 : tie.Need-integer-requires-2
 integer-requires-2 c κs = search needs
 
 returns-3 : tie.Need-returns-3
-returns-3 c = c .integer2 .ensures ∙ as-low _ _ _ (c .before .before .before .before .if1 .left) (λ e. c .before .before .if2 .left (e ∙ sym (c .before .before .before .five-byte-form .ensures))) (omega arith)
+returns-3 c =
+    let at-five = c .before .before .before in
+    c .integer2 .ensures
+    ∙ as-low _ _ _ (at-five .before .if1 .left) (λ e. c .before .before .if2 .left (e ∙ sym (at-five .five-byte-form .ensures))) (omega arith)
 
 minus-requires : tie.Need-minus-requires
 minus-requires c κs = search needs
@@ -47,7 +54,9 @@ integer-requires-3 : tie.Need-integer-requires-3
 integer-requires-3 c κs = search needs
 
 returns-4 : tie.Need-returns-4
-returns-4 c = c .integer3 .ensures ∙ valued (moved (c .before .minus .result) (c .before .minus .ok) (c .before .minus .ensures)) ∙ as-near _ _ _ (omega arith) (omega arith)
+returns-4 c =
+    let z = c .before .minus in
+    c .integer3 .ensures ∙ valued (moved (z .result) (z .ok) (z .ensures)) ∙ as-near _ _ _ (omega arith) (omega arith)
 
 cast-minus : tie.Need-cast-minus
 cast-minus c = search needs
@@ -62,13 +71,18 @@ add-minus-2 : tie.Need-add-minus-2
 add-minus-2 c = search needs
 
 minus-requires-2 : tie.Need-minus-requires-2
-minus-requires-2 c κs = let h = above-lt (c .before .before .before .before .before .before .args .dict) (c .before .before .before .before .before .before .args .b) (c .before .before .before .before .before .before .args .v) (omega arith) (omega arith) (c .before .before .before .before .before .before .pre) in omega arith
+minus-requires-2 c κs =
+    let start = c .before .before .before .before .before .before in
+    let h = above-lt (start .args .dict) (start .args .b) (start .args .v) (omega arith) (omega arith) (start .pre) in
+    omega arith
 
 integer-requires-4 : tie.Need-integer-requires-4
 integer-requires-4 c κs = search needs
 
 returns-5 : tie.Need-returns-5
-returns-5 c = c .integer4 .ensures ∙ valued (moved (c .before .minus2 .result) (c .before .minus2 .ok) (c .before .minus2 .ensures ∙ less-none _)) ∙ as-above _ _ _ (omega arith) (omega arith)
+returns-5 c =
+    let z = c .before .minus2 in
+    c .integer4 .ensures ∙ valued (moved (z .result) (z .ok) (z .ensures ∙ less-none _)) ∙ as-above _ _ _ (omega arith) (omega arith)
 
 cast-minus-2 : tie.Need-cast-minus-2
 cast-minus-2 c = search needs
@@ -83,19 +97,29 @@ add-minus-4 : tie.Need-add-minus-4
 add-minus-4 c = search needs
 
 minus-requires-3 : tie.Need-minus-requires-3
-minus-requires-3 c κs = let h = below-lt (c .before .before .before .before .before .before .before .args .dict) (c .before .before .before .before .before .before .before .args .b) (c .before .before .before .before .before .before .before .args .v) (omega arith) (omega arith) (c .before .before .before .before .before .before .before .pre) in omega arith
+minus-requires-3 c κs =
+    let start = c .before .before .before .before .before .before .before in
+    let h = below-lt (start .args .dict) (start .args .b) (start .args .v) (omega arith) (omega arith) (start .pre) in
+    omega arith
 
 integer-requires-5 : tie.Need-integer-requires-5
 integer-requires-5 c κs = search needs
 
 returns-6 : tie.Need-returns-6
-returns-6 c = c .integer5 .ensures ∙ valued (moved (c .before .minus3 .result) (c .before .minus3 .ok) (c .before .minus3 .ensures ∙ none-less (pairOf 251 (c .before .before .before .before .before .before .before .before .before .args .b) (c .before .before .before .before .before .before .before .before .before .args .v)))) ∙ as-below _ _ _ (omega arith) (omega arith)
+returns-6 c =
+    let a = c .before .before .before .before .before .before .before .before .before .args in
+    let z = c .before .minus3 in
+    c .integer5 .ensures
+    ∙ valued (moved (z .result) (z .ok) (z .ensures ∙ none-less (pairOf 251 (a .b) (a .v))))
+    ∙ as-below _ _ _ (omega arith) (omega arith)
 
 integer-requires-6 : tie.Need-integer-requires-6
 integer-requires-6 c κs = search needs
 
 returns-7 : tie.Need-returns-7
-returns-7 c = c .integer6 .ensures ∙ as-high _ _ _ (λ e. c .before .before .before .before .before .if2 .left (e ∙ sym (c .before .before .before .before .before .before .five-byte-form .ensures))) (omega arith)
+returns-7 c =
+    let at-if2 = c .before .before .before .before .before in
+    c .integer6 .ensures ∙ as-high _ _ _ (λ e. at-if2 .if2 .left (e ∙ sym (at-if2 .before .five-byte-form .ensures))) (omega arith)
 
 pub operand-of-spec : {M : Type 1} → statement M
 operand-of-spec =

@@ -14,13 +14,19 @@ bits-of-requires : tie.Need-bits-of-requires
 bits-of-requires c κs = search needs
 
 returns : tie.Need-returns
-returns c = charstring-fixed (c .before .before .before .args .o) _ (c .before .before .if1 .taken) (omega arith) (c .bits-of .ensures ∙ ap (unsigned 2147483648) (moved (c .before .before .before .args .o .value) (omega arith) refl))
+returns c =
+    let o = c .before .before .before .args .o in
+    let bits = c .bits-of .ensures ∙ ap (unsigned 2147483648) (moved (o .value) (omega arith) refl) in
+    charstring-fixed o _ (c .before .before .if1 .taken) (omega arith) bits
 
 integer-form-requires : tie.Need-integer-form-requires
 integer-form-requires c κs = search needs
 
 returns-2 : tie.Need-returns-2
-returns-2 c = charstring-integer (c .before .before .before .args .o) (c .integer-form .result) (c .before .before .if1 .left) (c .integer-form .ensures ∙ ap (λ (z : ℤ). spell integerRows (integer z)) (moved (c .before .before .before .args .o .value) (omega arith) refl))
+returns-2 c =
+    let o = c .before .before .before .args .o in
+    let same = ap (λ (z : ℤ). spell integerRows (integer z)) (moved (o .value) (omega arith) refl) in
+    charstring-integer o (c .integer-form .result) (c .before .before .if1 .left) (c .integer-form .ensures ∙ same)
 
 pub charstring-form-spec : {M : Type 1} → statement M
 charstring-form-spec =

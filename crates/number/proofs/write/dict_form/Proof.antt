@@ -1,7 +1,7 @@
 use mathlib.Core.Bool.{true}
 use Rattle.number.proofs.Border.{moved}
-use Rattle.number.specs.WrittenLaws.{coded, table-left, dict-five}
-use Rattle.number.specs.Written.{integer, spell}
+use Rattle.number.specs.WrittenLaws.{table-left, dict-five}
+use Rattle.number.specs.Written.{coded, integer, spell}
 use Rattle.number.specs.Signed.{unsigned}
 use Rattle.number.specs.Number.{integerRows}
 use lib.IntN.{ℤ}
@@ -24,10 +24,19 @@ bits-of-requires : tie.Need-bits-of-requires
 bits-of-requires c κs = search needs
 
 returns : tie.Need-returns
-returns c = dict-five (c .before .before .before .before .args .z) _ (omega arith) (c .bits-of .ensures ∙ ap (unsigned 2147483648) (moved (c .before .before .before .before .args .z) (omega arith) refl)) (ap coded (sym (c .before .enum-told .given .1)) ∙ c .before .before .before .integer-form .ensures ∙ ap (λ (z : ℤ). spell integerRows (integer z)) (moved (c .before .before .before .before .args .z) (omega arith) refl))
+returns c =
+    let at-form = c .before .before .before in
+    let z = at-form .before .args .z in
+    let same = moved z (omega arith) refl in
+    let none = ap coded (sym (c .before .enum-told .given .1)) ∙ at-form .integer-form .ensures ∙ ap (λ (y : ℤ). spell integerRows (integer y)) same in
+    dict-five z _ (omega arith) (c .bits-of .ensures ∙ ap (unsigned 2147483648) same) none
 
 returns-2 : tie.Need-returns-2
-returns-2 c = table-left (integer (c .before .before .before .before .args .z)) true (c .before .form .given .0 .0) (ap coded (sym (c .before .form .given .1)) ∙ c .before .before .before .integer-form .ensures ∙ ap (λ (z : ℤ). spell integerRows (integer z)) (moved (c .before .before .before .before .args .z) (omega arith) refl))
+returns-2 c =
+    let at-form = c .before .before .before in
+    let z = at-form .before .args .z in
+    let same = ap (λ (y : ℤ). spell integerRows (integer y)) (moved z (omega arith) refl) in
+    table-left (integer z) true (c .before .form .given .0 .0) (ap coded (sym (c .before .form .given .1)) ∙ at-form .integer-form .ensures ∙ same)
 
 pub dict-form-spec : {M : Type 1} → statement M
 dict-form-spec =

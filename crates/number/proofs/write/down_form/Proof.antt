@@ -1,4 +1,5 @@
-use Rattle.number.specs.WrittenLaws.{coded, down-one, down-two, down-three, down-none}
+use Rattle.number.specs.Written.{coded}
+use Rattle.number.specs.WrittenLaws.{down-one, down-two, down-three, down-none}
 use mathlib.Core.Path.{ap, _∙_}
 use native.Mathlib.Omega.{arith}
 use borrow.Author.Needs.{needs}

@@ -24,10 +24,16 @@ down-form-requires : tie.Need-down-form-requires
 down-form-requires c κs = search needs
 
 returns : tie.Need-returns
-returns c = c .up-form .ensures ∙ ap (λ (z : ℤ). spell integerRows (integer z)) (sym (up-is _ _ (omega arith) (c .before .before .before .before .split .ensures) (c .before .before .n .given .1)))
+returns c =
+    c .up-form .ensures
+    ∙ ap (λ (z : ℤ). spell integerRows (integer z))
+    (sym (up-is _ _ (omega arith) (c .before .before .before .before .split .ensures) (c .before .before .n .given .1)))
 
 returns-2 : tie.Need-returns-2
-returns-2 c = c .down-form .ensures ∙ ap (λ (z : ℤ). spell integerRows (integer z)) (sym (down-is _ _ (omega arith) (c .before .before .before .before .split .ensures) (c .before .before .n2 .given .1)))
+returns-2 c =
+    c .down-form .ensures
+    ∙ ap (λ (z : ℤ). spell integerRows (integer z))
+    (sym (down-is _ _ (omega arith) (c .before .before .before .before .split .ensures) (c .before .before .n2 .given .1)))
 
 pub integer-form-spec : {M : Type 1} → statement M
 integer-form-spec =

@@ -1,4 +1,5 @@
-use Rattle.number.specs.WrittenLaws.{coded, up-one, up-two, up-three, up-none}
+use Rattle.number.specs.Written.{coded}
+use Rattle.number.specs.WrittenLaws.{up-one, up-two, up-three, up-none}
 use mathlib.Core.Path.{ap, _∙_}
 use native.Mathlib.Omega.{arith}
 use borrow.Author.Needs.{needs}
