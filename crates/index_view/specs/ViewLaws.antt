@@ -55,7 +55,7 @@ module _ (w : ℕ) (at : ℕ × ℕ) (s : List ℕ) (i : ℕ) where
   unfolding viewBy place placeIn
   by-extent (refused k v) e =
       let y : refused k v ≡ place w s i = rw (← e) in
-      ap (partBy at []) (sym (seen-past w [] 0 0 i (omega arith))) ∙ sym (part-none at [] 25 []) ∙ part-none at s k v ∙ ap (partBy at s) y
+      ap (partBy at []) (sym (seen-past w [] 0 0 i (omega arith))) ∙ sym (part-none at [] 25 alone) ∙ part-none at s k v ∙ ap (partBy at s) y
   by-extent (accepted x) e = part-seen w s (x .entries) (x .taken) (getD (take (x .taken) s) w 0) i e sized at
     where
       sized : 0 < x .entries → getD (take (x .taken) s) w 0 ≡ getD s w 0

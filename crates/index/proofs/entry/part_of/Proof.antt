@@ -8,6 +8,7 @@ use lib.ListN.{length, take, drop}
 use types.Run.{OneOf, miss}
 use denote.Enum.Declared.{tagOf}
 use borrow.Author.Needs.{needs}
+use Rattle.number.specs.Answer.{alone}
 use Rattle.index.specs.Index.{partBy, entryRead}
 use Rattle.index.specs.IndexLaws.{Inside, part-lies, part-none}
 use Rattle.index.specs.declared.entry.EntryRead.the-variants.{Entry, Lacking, BadSize, Absent}
@@ -19,9 +20,9 @@ use Rattle.index.proofs.entry.part_of.Tie as tie
 -- any other answer, by its tag
 other : (at : ℕ × ℕ) (s : List ℕ) (r : EntryRead) → OneOf (1 ∷ 2 ∷ 3 ∷ []) (tagOf entry-type.the-type r) → record { at = at; bytes = [] } ≡ partBy at s (entryRead r)
 other at s (Entry a m) k = absurd (miss (1 ∷ 2 ∷ 3 ∷ []) 0 tt k)
-other at s Lacking k = part-none at s 20 []
-other at s BadSize k = part-none at s 21 []
-other at s Absent k = part-none at s 25 []
+other at s Lacking k = part-none at s 20 alone
+other at s BadSize k = part-none at s 21 alone
+other at s Absent k = part-none at s 25 alone
 
 -- where the entry is bound
 within : (c : tie.After-entry) → c .entry .given .0 .0 + c .entry .given .0 .1 .0 ≤ length (c .before .before .args .s .now)
