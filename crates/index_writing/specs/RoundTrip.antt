@@ -10,7 +10,7 @@ use lib.Dec.{leb, ltb, eqb}
 use lib.ListN.{length, getD, take, drop, length-append, length-drop}
 use lib.Seq.{length-take-le, take-length, drop-append-add, getD-at}
 use borrow.Author.Tests.{leb-true, leb-false, ltb-false, eqb-true, eqb-false}
-use Rattle.number.specs.Answer.{Answer, accepted, refused, Outcome, alone, needing}
+use Rattle.number.specs.Answer.{Answer, accepted, refused, alone, needing, mapped, Outcome, sized, into}
 use Rattle.number.specs.BigEndian.{beAt, bytesOf}
 use Rattle.number.specs.BigEndianLaws.{length-bytes, be-bytes}
 use Rattle.index.specs.Index.{dataStart, offset, extent, place, part}
@@ -19,7 +19,7 @@ use Rattle.index.specs.OffsetLaws.{start-is}
 use Rattle.index.specs.Formed.{yes, formation}
 use Rattle.index.specs.FormedLaws.{formed-yes}
 use Rattle.index.specs.AfterLaws.{read-after, part-after, formation-after}
-use Rattle.index_writing.specs.Writing.{total, element, sizeFor, offsets, indexBytes, indexOf, stored, writeIndex}
+use Rattle.index_writing.specs.Writing.{total, element, sizeFor, offsets, indexBytes, indexOf, writeIndex}
 use Rattle.index_writing.specs.WritingLaws.{size-holds, length-offsets, Writable, reach-none, index-some, length-some, length-index, wrote}
 
 -- ---- the lengths before an element
@@ -218,22 +218,22 @@ module _ (w : ℕ) (ls joined : List ℕ) where
 
   module _ (out : List ℕ) (n : ℕ) (l : List ℕ) (e : wrote (accepted n) l ≡ writeIndex w ls joined out) where
     pub write-accepted : Written w ls joined out n l
-    unfolding writeIndex stored
+    unfolding writeIndex into
     write-accepted = by-index (indexOf w ls joined) refl e
       where
         by-room : (b : List ℕ) → accepted b ≡ indexOf w ls joined → (t : Bool) → leb (length b) (length out) ≡ t
             → wrote (accepted n) l ≡ cond t (wrote (accepted (length b)) (b ++ drop (length b) out)) (wrote (refused 13 (needing (length b))) out)
             → Written w ls joined out n l
-        by-room b i false h e = absurd (not-refused (ap (λ (o : Outcome). o .answer) e))
+        by-room b i false h e = absurd (not-refused (ap (λ (o : Outcome (Answer ℕ)). o .answer) e))
         by-room b i true h e =
             let x = index-accepted b i in
-            let answer : accepted n ≡ accepted (length b) = ap (λ (o : Outcome). o .answer) e in
+            let answer : accepted n ≡ accepted (length b) = ap (λ (o : Outcome (Answer ℕ)). o .answer) e in
             let so-long : n ≡ length b = cc in
-            let so-left : l ≡ b ++ drop (length b) out = ap (λ (o : Outcome). o .left) e in
+            let so-left : l ≡ b ++ drop (length b) out = ap (λ (o : Outcome (Answer ℕ)). o .left) e in
             record { can = x .0; long = so-long ∙ ap length (x .1); fits = omega (arith, leb-true (length b) (length out) h); left = rw (so-left, so-long, ← x .1) }
 
-        by-index : (x : Answer (List ℕ)) → x ≡ indexOf w ls joined → wrote (accepted n) l ≡ stored x out → Written w ls joined out n l
-        by-index (refused k v) i e = absurd (not-refused (ap (λ (o : Outcome). o .answer) e))
+        by-index : (x : Answer (List ℕ)) → x ≡ indexOf w ls joined → wrote (accepted n) l ≡ into out (mapped sized x) → Written w ls joined out n l
+        by-index (refused k v) i e = absurd (not-refused (ap (λ (o : Outcome (Answer ℕ)). o .answer) e))
         by-index (accepted b) i e = by-room b i (leb (length b) (length out)) refl e
 
     -- what is written is well formed and reads back

@@ -10,12 +10,12 @@ use lib.Dec.{leb, eqb}
 use lib.ListN.{length, getD, take, drop, set, length-append, length-drop, take-append-drop, drop-of-length-le}
 use lib.Seq.{drop-cons, drop-drop, drop-append-add, length-take-le, take-at, set-split}
 use borrow.Author.Tests.{lt-ltb, le-ltb, le-leb, lt-leb, eq-eqb, ne-eqb, leb-true, eqb-true, eqb-false}
-use Rattle.number.specs.Answer.{Answer, accepted, refused, Outcome, alone, needing}
+use Rattle.number.specs.Answer.{Answer, accepted, refused, alone, needing, Outcome, leaving, sized, into}
 use Rattle.number.specs.BigEndian.{bytesOf, putAt}
 use Rattle.number.specs.BigEndianLaws.{length-bytes}
 use Rattle.index.specs.Index.{dataStart}
 use Rattle.index.specs.OffsetLaws.{start-is, start-mono}
-use Rattle.index_writing.specs.Writing.{total, sizeFor, offsets, behindCount, indexBytes, indexOf, stored, writeIndex}
+use Rattle.index_writing.specs.Writing.{total, sizeFor, offsets, behindCount, indexBytes, indexOf, writeIndex}
 
 -- ---- bytes laid over others
 
@@ -246,41 +246,41 @@ module _ (w : ℕ) (ls joined s : List ℕ) (z : ℕ) (sized : z ≡ sizeFor (to
 
 -- ---- the outcome
 
-abbrev pub wrote : Answer ℕ → List ℕ → Outcome
-wrote a l = record { answer = a; left = l }
+abbrev pub wrote : Answer ℕ → List ℕ → Outcome (Answer ℕ)
+wrote a l = leaving a l
 
 module _ (w : ℕ) (ls joined out : List ℕ) where
   pub too-many : 2 ^ (8 * w) ≤ length ls → wrote (refused 22 alone) out ≡ writeIndex w ls joined out
-  unfolding writeIndex indexOf stored
+  unfolding writeIndex indexOf into
   too-many h = rw (le-leb (2 ^ (8 * w)) (length ls) h)
 
   module _ (few : length ls < 2 ^ (8 * w)) where
     pub too-long : 4294967295 < total ls + 1 → wrote (refused 23 alone) out ≡ writeIndex w ls joined out
-    unfolding writeIndex indexOf stored
+    unfolding writeIndex indexOf into
     too-long h = rw (lt-leb (2 ^ (8 * w)) (length ls) few, lt-ltb 4294967295 (total ls + 1) h)
 
     pub mismatch : total ls + 1 ≤ 4294967295 → (total ls ≡ length joined → ⊥) → wrote (refused 24 alone) out ≡ writeIndex w ls joined out
-    unfolding writeIndex indexOf stored
+    unfolding writeIndex indexOf into
     mismatch h k = rw (lt-leb (2 ^ (8 * w)) (length ls) few, le-ltb 4294967295 (total ls + 1) h, ne-eqb (total ls) (length joined) k)
 
   module _ (f : Writable w ls joined) where
-    to-bytes : stored (accepted (indexBytes w ls joined)) out ≡ writeIndex w ls joined out
+    to-bytes : into out (accepted (sized (indexBytes w ls joined))) ≡ writeIndex w ls joined out
     unfolding writeIndex indexOf
     to-bytes = rw (lt-leb (2 ^ (8 * w)) (length ls) (f .few), le-ltb 4294967295 (total ls + 1) (f .short), eq-eqb (total ls) (length joined) (f .adds))
 
     pub no-room : (n : ℕ) → n ≡ length (indexBytes w ls joined) → length out < n → wrote (refused 13 (needing n)) out ≡ writeIndex w ls joined out
-    unfolding stored
+    unfolding into
     no-room n e h =
         let k : length out < length (indexBytes w ls joined) = omega arith in
         let b = indexBytes w ls joined in
-        let t : wrote (refused 13 (needing n)) out ≡ stored (accepted b) out = rw (e, lt-leb (length b) (length out) k) in
+        let t : wrote (refused 13 (needing n)) out ≡ into out (accepted (sized b)) = rw (e, lt-leb (length b) (length out) k) in
         t ∙ to-bytes
 
     pub written : (n : ℕ) → n ≡ length (indexBytes w ls joined) → n ≤ length out → (l : List ℕ) → l ≡ laid 0 (indexBytes w ls joined) out
         → wrote (accepted n) l ≡ writeIndex w ls joined out
-    unfolding stored
+    unfolding into
     written n e h l q =
         let k : length (indexBytes w ls joined) ≤ length out = omega arith in
         let b = indexBytes w ls joined in
-        let t : wrote (accepted n) l ≡ stored (accepted b) out = rw (e, q, laid-first b out, le-leb (length b) (length out) k) in
+        let t : wrote (accepted n) l ≡ into out (accepted (sized b)) = rw (e, q, laid-first b out, le-leb (length b) (length out) k) in
         t ∙ to-bytes

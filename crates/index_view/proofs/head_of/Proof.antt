@@ -1,4 +1,4 @@
--- `view::head_of` meets its contract. Assumes nothing.
+-- `index_view::head_of` meets its contract. Assumes nothing.
 use mathlib.Core.List.{List, [], _∷_}
 use mathlib.Core.Path.{_≡_, sym, ap, _∙_}
 use Prim.Native.Nat.{ℕ}

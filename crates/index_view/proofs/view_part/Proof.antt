@@ -1,4 +1,4 @@
--- `view::view_part` meets its contract: a walk of its MIR, by hand. The struct is taken apart, and `part_in` is called on what it holds. All that the proof knows of `part_in` is that it meets its contract.
+-- `index_view::view_part` meets its contract: a walk of its MIR, by hand. The struct is taken apart, and `part_in` is called on what it holds. All that the proof knows of `part_in` is that it meets its contract.
 -- The struct is Copy: what it owns is had twice, one copy is kept whole for the exit, and of the other what bytes owns goes to the callee, beside the lifetime's token, which comes back.
 -- Assumes nothing.
 use mathlib.Core.Path.{_≡_, refl}
