@@ -1,5 +1,5 @@
--- The contract of `write_index` fixes its result and what it leaves: any two that it allows for the same arguments are one. Stated over the
--- contract's own reading. Assumes nothing.
+-- Each public function's contract fixes its result, and `write_index`'s what it leaves: any two that it allows for the same arguments are
+-- one. Stated over the contracts' own readings. Assumes nothing.
 use mathlib.Core.Path.{_≡_, refl, sym, ap, _∙_}
 use mathlib.Core.Bool.{cond}
 use Prim.Native.Nat.{ℕ}
@@ -11,6 +11,8 @@ use Rattle.number.specs.Answer.{Values, alone, atToken, needing, needingAt, Ans
 use Rattle.index_writing.specs.Writing.{indexWritten}
 use Rattle.index_writing.specs.declared.IndexWritten.{IndexWritten}
 use Rattle.index_writing.specs.declared.IndexWritten.the-variants.{Bytes, NoRoom, TooMany, TooLong, Mismatch}
+use Rattle.index_writing.proofs.IndexWritten.number.Kinds as number-kinds
+use Rattle.index_writing.proofs.IndexWritten.number.Reads as number-reads
 use Rattle.index_writing.proofs.write_index.Kinds as kinds
 use Rattle.index_writing.proofs.write_index.Reads as reads
 
@@ -33,6 +35,11 @@ written-undo (NoRoom n) = refl
 written-undo TooMany = refl
 written-undo TooLong = refl
 written-undo Mismatch = refl
+
+pub number-once : (κs : Lfts 0) (a : Dens κs number-kinds.ps) (r r′ : resT number-kinds.r κs .Denot)
+    (x x′ : AtExit (endedOf 0 number-kinds.ps number-kinds.r) κs)
+    → number-reads.Post κs a r x → number-reads.Post κs a r′ x′ → r ≡ r′
+number-once κs a r r′ x x′ p p′ = p ∙ sym p′
 
 pub write-index-once : (κs : Lfts 3) (a : Dens κs kinds.ps) (r r′ : resT kinds.r κs .Denot) (x x′ : AtExit (endedOf 3 kinds.ps kinds.r) κs)
     → reads.Post κs a r x → reads.Post κs a r′ x′ → (r ≡ r′) × (x .1 .1 .0 .now ≡ x′ .1 .1 .0 .now)

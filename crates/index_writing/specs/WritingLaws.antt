@@ -15,13 +15,10 @@ use Rattle.number.specs.BigEndian.{bytesOf, putAt}
 use Rattle.number.specs.BigEndianLaws.{length-bytes}
 use Rattle.index.specs.Index.{dataStart}
 use Rattle.index.specs.OffsetLaws.{start-is, start-mono}
+use Rattle.index_writing.specs.Code.{laid, Writable, reachOf}
 use Rattle.index_writing.specs.Writing.{total, sizeFor, offsets, behindCount, indexBytes, indexOf, writeIndex}
 
 -- ---- bytes laid over others
-
--- s with bs from `at` on
-unfoldable pub laid : ℕ → List ℕ → List ℕ → List ℕ
-laid at bs s = take at s ++ (bs ++ drop (at + length bs) s)
 
 drop-past : (p d : List ℕ) {n : ℕ} (k : ℕ) → length p ≡ n → drop (n + k) (p ++ d) ≡ drop k d
 drop-past p d k e = rw (← e) (drop-append-add p d k)
@@ -150,16 +147,6 @@ module _ (w i z at : ℕ) (here : at ≡ w + 1 + i * z) where
 
 -- ---- the whole
 
--- Elements that can be written: few enough for the count, short enough for the offsets, and adding up to the data.
-pub record Writable (w : ℕ) (ls joined : List ℕ) : Type 0 where
-  pub few : length ls < 2 ^ (8 * w)
-  pub short : total ls + 1 ≤ 4294967295
-  pub adds : total ls ≡ length joined
-
--- how many bytes an INDEX takes that has n elements, offsets of z bytes, and d bytes of data
-unfoldable pub reachOf : ℕ → ℕ → ℕ → ℕ → ℕ
-reachOf w n z d = cond (eqb n 0) w (dataStart w n z + d)
-
 module _ (w n z d : ℕ) where
   pub reach-none : n ≡ 0 → w ≡ reachOf w n z d
   unfolding reachOf
@@ -190,7 +177,12 @@ module _ (w : ℕ) (ls joined : List ℕ) where
 
   pub length-some : length (bytesOf w (length ls) ++ (size ∷ (offsets size 1 ls ++ joined))) ≡ dataStart w (length ls) size + length joined
   length-some =
-      rw (length-append (bytesOf w (length ls)) (size ∷ (offsets size 1 ls ++ joined)), length-append (offsets size 1 ls) joined, length-bytes w (length ls), length-offsets size 1 ls)
+      rw (
+        length-append (bytesOf w (length ls)) (size ∷ (offsets size 1 ls ++ joined)),
+        length-append (offsets size 1 ls) joined,
+        length-bytes w (length ls),
+        length-offsets size 1 ls,
+      )
       (omega arith)
 
   pub length-index : length (indexBytes w ls joined) ≡ reachOf w (length ls) size (length joined)

@@ -1,3 +1,4 @@
+-- `index_writing::put_offset` meets its contract. Assumes nothing.
 use mathlib.Core.Path.{refl, sym, ap, _∙_}
 use native.Mathlib.Omega.{arith}
 use Rattle.number.specs.Answer.{Outcome}
