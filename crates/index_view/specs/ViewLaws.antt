@@ -11,16 +11,10 @@ use Rattle.index.specs.Index.{Extent, extent, place, placeIn, partBy, partAt}
 use Rattle.index.specs.IndexLaws.{has, entries-full, part-none}
 use Rattle.index.specs.OffsetLaws.{start-is}
 use Rattle.index.specs.SeenLaws.{seen-past, part-seen}
+use Rattle.index_view.specs.Code.{headBy, headOf}
 use Rattle.index_view.specs.View.{viewBy, viewOf, viewPart}
 
 -- ---- what a view is made of
-
-unfoldable pub headBy : ℕ → List ℕ → Answer Extent → Head
-headBy w s (accepted x) = record { taken = x .taken; count = x .entries; size = getD (take (x .taken) s) w 0 }
-headBy w s (refused k v) = record { taken = 0; count = 0; size = 0 }
-
-unfoldable pub headOf : ℕ → List ℕ → Head
-headOf w s = headBy w s (extent w s)
 
 module _ (w : ℕ) (s : List ℕ) where
   pub head-read : {n t z : ℕ} → has n t ≡ extent w s → z ≡ getD (take t s) w 0 → record { taken = t; count = n; size = z } ≡ headOf w s

@@ -39,7 +39,8 @@ use denote.Triple.Table.{entered, cited}
 use denote.Triple.Walked.{says, Stays, stay-none-slice, walkOf, goes-none-slice, Walks, ends-at, walked, walk-meets}
 use denote.Exit.{yes}
 use denote.Triple.Clauses.{ensured, lasts}
-use Rattle.index_view.specs.ViewLaws.{headOf, view-made}
+use Rattle.index_view.specs.Code.{headOf}
+use Rattle.index_view.specs.ViewLaws.{view-made}
 use Rattle.index_view.specs.declared.View.{View}
 use Rattle.index_view.specs.declared.Head.{Head}
 use Rattle.index_view.proofs.View as T
