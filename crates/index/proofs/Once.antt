@@ -15,6 +15,10 @@ use Rattle.index.specs.declared.entry.EntryRead.{EntryRead}
 use Rattle.index.specs.declared.entry.EntryRead.the-variants.{Entry, Lacking as NoBytes, BadSize as NoSize, Absent}
 use Rattle.index.specs.declared.list.Formed.{Formed}
 use Rattle.index.specs.declared.list.Formed.the-variants.{Yes, Lacking as Unread, BadSize as Unsized, Emptied, Bad}
+use Rattle.index.proofs.read.IndexRead.number.Kinds as index-number-kinds
+use Rattle.index.proofs.read.IndexRead.number.Reads as index-number-reads
+use Rattle.index.proofs.entry.EntryRead.number.Kinds as entry-number-kinds
+use Rattle.index.proofs.entry.EntryRead.number.Reads as entry-number-reads
 use Rattle.index.proofs.read.read_index.Kinds as index-kinds
 use Rattle.index.proofs.read.read_index.Reads as index-reads
 use Rattle.index.proofs.entry.read_entry.Kinds as entry-kinds
@@ -70,6 +74,16 @@ formed-undo Emptied = refl
 formed-undo (Bad i) = refl
 
 -- ---- the theorems
+
+pub index-number-once : (κs : Lfts 0) (a : Dens κs index-number-kinds.ps) (r r′ : resT index-number-kinds.r κs .Denot)
+    (x x′ : AtExit (endedOf 0 index-number-kinds.ps index-number-kinds.r) κs)
+    → index-number-reads.Post κs a r x → index-number-reads.Post κs a r′ x′ → r ≡ r′
+index-number-once κs a r r′ x x′ p p′ = p ∙ sym p′
+
+pub entry-number-once : (κs : Lfts 0) (a : Dens κs entry-number-kinds.ps) (r r′ : resT entry-number-kinds.r κs .Denot)
+    (x x′ : AtExit (endedOf 0 entry-number-kinds.ps entry-number-kinds.r) κs)
+    → entry-number-reads.Post κs a r x → entry-number-reads.Post κs a r′ x′ → r ≡ r′
+entry-number-once κs a r r′ x x′ p p′ = p ∙ sym p′
 
 module _ (κs : Lfts 1) where
   pub read-index-once : (a : Dens κs index-kinds.ps) (r r′ : resT index-kinds.r κs .Denot) (x x′ : AtExit (endedOf 1 index-kinds.ps index-kinds.r) κs)

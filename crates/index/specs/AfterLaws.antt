@@ -14,7 +14,9 @@ use Rattle.number.specs.BigEndian.{beAt}
 use Rattle.index.specs.Index.{Place, dataStart, offset, extent, placeIn, place, bytesBy, part}
 use Rattle.index.specs.Formed.{entriesFrom, formedBy, formation}
 use Rattle.index.specs.OffsetLaws.{start-is, start-mono}
-use Rattle.index.specs.IndexLaws.{has, offsetOf, Headed, Full, reach, Shape, none, emptied, full, shape, entries-full, size-there, count-zero, last-zero, full-read, past-count, count-there, Inside, place-inside}
+use Rattle.index.specs.Code.{offsetOf, Headed, reach, Full, Inside}
+use Rattle.index.specs.IndexLaws.{has, Shape, none, emptied, full, shape, entries-full, size-there, count-zero, last-zero, full-read}
+use Rattle.index.specs.IndexLaws.{past-count, count-there, place-inside}
 
 module _ (s r : List ℕ) where
   be-after : (at k : ℕ) → at + k ≤ length s → beAt (s ++ r) at k ≡ beAt s at k

@@ -27,11 +27,27 @@ end = 0 ∷ 1 ∷ 1 ∷ 3 ∷ 3 ∷ 0xAA ∷ 0xBB ∷ []
 abbrev back : List ℕ
 back = 0 ∷ 3 ∷ 2 ∷ 0 ∷ 1 ∷ 0 ∷ 3 ∷ 0 ∷ 2 ∷ 0 ∷ 3 ∷ 7 ∷ 8 ∷ 9 ∷ []
 
-pub reads : (extent 2 two ≡ has 2 7) × (extent 2 none ≡ has 0 6) × (extent 2 (0 ∷ 0 ∷ 7 ∷ []) ≡ has 0 2) × (extent 2 [] ≡ refused 20 alone) × (extent 2 (0 ∷ 1 ∷ 5 ∷ []) ≡ refused 21 alone) × (extent 2 back ≡ has 3 13)
+-- a count of four bytes
+abbrev wide : List ℕ
+wide = 0 ∷ 0 ∷ 0 ∷ 1 ∷ 1 ∷ 1 ∷ 2 ∷ 0x0B ∷ []
+
+pub reads :
+    (extent 2 two ≡ has 2 7)
+    × (extent 2 none ≡ has 0 6)
+    × (extent 2 (0 ∷ 0 ∷ 7 ∷ []) ≡ has 0 2)
+    × (extent 2 [] ≡ refused 20 alone)
+    × (extent 2 (0 ∷ 1 ∷ 5 ∷ []) ≡ refused 21 alone)
+    × (extent 2 back ≡ has 3 13)
 unfolding extent byCount bySize byLast offset beAt
 reads = (refl, refl, refl, refl, refl, refl)
 
-pub entries : (place 2 two 1 ≡ lies 7 0) × (place 2 two 2 ≡ refused 25 alone) × (place 2 none 0 ≡ refused 25 alone) × (place 2 late 0 ≡ lies 6 1) × (place 2 end 0 ≡ lies 7 0) × (place 2 back 1 ≡ refused 25 alone)
+pub entries :
+    (place 2 two 1 ≡ lies 7 0)
+    × (place 2 two 2 ≡ refused 25 alone)
+    × (place 2 none 0 ≡ refused 25 alone)
+    × (place 2 late 0 ≡ lies 6 1)
+    × (place 2 end 0 ≡ lies 7 0)
+    × (place 2 back 1 ≡ refused 25 alone)
 unfolding place placeIn placeBy absent extent byCount bySize byLast offset beAt
 entries = (refl, refl, refl, refl, refl, refl)
 
@@ -39,6 +55,16 @@ pub parts : (part 2 two 0 ≡ 0x0E ∷ []) × (part 2 late 0 ≡ 0x0B ∷ []) ×
 unfolding part bytesBy place placeIn placeBy absent extent byCount bySize byLast offset beAt
 parts = (refl, refl, refl)
 
-pub lists : (formation 2 two ≡ yes 2) × (formation 2 none ≡ emptied) × (formation 2 late ≡ yes 1) × (formation 2 (0 ∷ 0 ∷ []) ≡ yes 0) × (formation 2 [] ≡ unread 20) × (formation 2 back ≡ bad 1)
+pub lists :
+    (formation 2 two ≡ yes 2)
+    × (formation 2 none ≡ emptied)
+    × (formation 2 late ≡ yes 1)
+    × (formation 2 (0 ∷ 0 ∷ []) ≡ yes 0)
+    × (formation 2 [] ≡ unread 20)
+    × (formation 2 back ≡ bad 1)
 unfolding formation formedBy entriesFrom place placeIn placeBy absent extent byCount bySize byLast offset beAt
 lists = (refl, refl, refl, refl, refl, refl)
+
+pub widths : (extent 4 wide ≡ has 1 8) × (place 4 wide 0 ≡ lies 7 1) × (extent 4 (0 ∷ 0 ∷ 1 ∷ []) ≡ refused 20 alone) × (formation 4 wide ≡ yes 1)
+unfolding formation formedBy entriesFrom place placeIn placeBy absent extent byCount bySize byLast offset beAt
+widths = (refl, refl, refl, refl)

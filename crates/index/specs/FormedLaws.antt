@@ -10,7 +10,8 @@ use borrow.Author.Tests.{eq-eqb, ne-eqb, eqb-true, ltb-true, ltb-false}
 use Rattle.number.specs.Answer.{Answer, accepted, refused, alone}
 use Rattle.number.specs.BigEndian.{beAt}
 use Rattle.index.specs.Index.{Extent, Place, extent, place}
-use Rattle.index.specs.IndexLaws.{has, Full, full-read}
+use Rattle.index.specs.Code.{Full}
+use Rattle.index.specs.IndexLaws.{has, full-read}
 use Rattle.index.specs.Formed.{Formation, yes, unread, emptied, bad, isPresent, entriesFrom, formedBy, formation}
 
 -- ---- the entries from i on, up to n
@@ -121,7 +122,12 @@ module _ (w : ℕ) (s : List ℕ) where
           let all = all-there n 0 (x .entries) (c .1) in
           let m : x .entries ≡ n = omega arith in
           let counts = eqb-true (x .entries) (beAt s 0 w) (c .0) in
-          record { taken = x .taken; read = ap (λ (y : ℕ). has y (x .taken)) (sym m) ∙ q; count = omega arith; entry = λ i h. all .1 i (omega arith) (omega arith) }
+          record {
+            taken = x .taken;
+            read = ap (λ (y : ℕ). has y (x .taken)) (sym m) ∙ q;
+            count = omega arith;
+            entry = λ i h. all .1 i (omega arith) (omega arith);
+          }
 
   pub formed-yes : {n : ℕ} → WellFormed w s n → yes n ≡ formation w s
   formed-yes {n} f = ap yes (sym (zero-add n)) ∙ there-all 0 n (λ j h l. f .entry j (omega arith)) ∙ as-counted w s (f .read) (f .count)

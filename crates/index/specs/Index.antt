@@ -8,13 +8,14 @@ use lib.ListN.{length, getD, take, drop}
 use lib.Dec.{leb, ltb, eqb}
 use Rattle.number.specs.Answer.{Answer, accepted, refused, alone}
 use Rattle.number.specs.BigEndian.{beAt}
-use Rattle.index.specs.declared.read.Width.{Width}
-use Rattle.index.specs.declared.read.Width.the-variants.{Two, Four}
+use Rattle.index.specs.declared.width.Width.{Width}
+use Rattle.index.specs.declared.width.Width.the-variants.{Two, Four}
 use Rattle.index.specs.declared.read.IndexRead.{IndexRead}
 use Rattle.index.specs.declared.read.IndexRead.the-variants.{Read, Lacking, BadSize}
 use Rattle.index.specs.declared.entry.EntryRead.{EntryRead}
 use Rattle.index.specs.declared.entry.EntryRead.the-variants.{Entry, Lacking as NoBytes, BadSize as NoSize, Absent}
 
+-- the widths that the code reads
 abbrev pub widthOf : Width → ℕ
 widthOf Two = 2
 widthOf Four = 4
@@ -74,9 +75,12 @@ absent i x start a b = leb (x .entries) i || (eqb a 0 || (eqb b 0 || (ltb b a ||
 unfoldable pub placeBy : ℕ → Extent → ℕ → ℕ → ℕ → Answer Place
 placeBy i x start a b = cond (absent i x start a b) (refused 25 alone) (accepted (record { start = start + (a - 1); size = b - a }))
 
+-- by the offset size z, of an INDEX x
+abbrev pub placeOf : ℕ → List ℕ → Extent → ℕ → ℕ → Answer Place
+placeOf w s x z i = placeBy i x (dataStart w (x .entries) z) (offset w s z i) (offset w s z (i + 1))
+
 unfoldable pub placeIn : ℕ → List ℕ → ℕ → Answer Extent → Answer Place
-placeIn w s i (accepted x) =
-    let z = getD s w 0 in placeBy i x (dataStart w (x .entries) z) (offset w s z i) (offset w s z (i + 1))
+placeIn w s i (accepted x) = placeOf w s x (getD s w 0) i
 placeIn w s i (refused k v) = refused k v
 
 -- entry i of the INDEX at the start of s
@@ -88,7 +92,7 @@ place w s i = placeIn w s i (extent w s)
 unfoldable pub placeSeen : ℕ → List ℕ → ℕ → ℕ → ℕ → Answer Place
 placeSeen w s n z i =
     cond (leb n i || (eqb z 0 || (ltb 4 z || ltb (length s) (dataStart w n z)))) (refused 25 alone)
-    (placeBy i (record { entries = n; taken = length s }) (dataStart w n z) (offset w s z i) (offset w s z (i + 1)))
+    (placeOf w s (record { entries = n; taken = length s }) z i)
 
 unfoldable pub bytesBy : List ℕ → Answer Place → List ℕ
 bytesBy s (accepted p) = take (p .size) (drop (p .start) s)

@@ -10,7 +10,9 @@ use lib.Dec.{leb, ltb, eqb}
 use borrow.Author.Tests.{lt-ltb, le-ltb, le-leb, lt-leb, eq-eqb, ne-eqb, ltb-false, leb-false, eqb-true, eqb-false}
 use Rattle.number.specs.Answer.{Values, Answer, accepted, refused, alone}
 use Rattle.number.specs.BigEndian.{beAt}
-use Rattle.index.specs.Index.{Extent, Place, dataStart, offset, byLast, bySize, byCount, extent, absent, placeBy, placeIn, place, bytesBy, part, startBy, partBy}
+use Rattle.index.specs.Index.{Extent, dataStart, offset, byLast, bySize, byCount, extent}
+use Rattle.index.specs.Index.{Place, absent, placeBy, placeIn, place, bytesBy, part, startBy, partBy}
+use Rattle.index.specs.Code.{offsetOf, dataOf, Headed, reach, Full, Inside}
 use Rattle.index.specs.OffsetLaws.{start-is}
 
 -- an accepted read, and an accepted entry
@@ -42,33 +44,8 @@ past false k x e = (refl, e)
 
 -- ---- what the bytes of an INDEX are
 
--- an offset, and where the data of n entries start, with the offset size that the size byte gives
-abbrev pub offsetOf : ℕ → List ℕ → ℕ → ℕ
-offsetOf w s i = offset w s (getD s w 0) i
-
-abbrev pub dataOf : ℕ → List ℕ → ℕ → ℕ
-dataOf w s n = dataStart w n (getD s w 0)
-
--- The count is n, not 0, and the size byte and all offsets are there.
-pub record Headed (w : ℕ) (s : List ℕ) (n : ℕ) : Type 0 where
-  pub count : n ≡ beAt s 0 w
-  pub some : 0 < n
-  pub size-pos : 0 < getD s w 0
-  pub size-le : getD s w 0 ≤ 4
-  pub offsets : dataOf w s n ≤ length s
-
 pub size-there : {w : ℕ} {s : List ℕ} {n : ℕ} → Headed w s n → w + 1 ≤ length s
 size-there {w} {s} {n} h = omega (arith, start-is w n (getD s w 0))
-
--- where an INDEX with n entries ends: the last offset is one more than the data's length
-abbrev pub reach : ℕ → List ℕ → ℕ → ℕ
-reach w s n = dataOf w s n + (offsetOf w s n - 1)
-
--- It has entries, n of them, and all of their data.
-pub record Full (w : ℕ) (s : List ℕ) (n : ℕ) : Type 0 where
-  pub head : Headed w s n
-  pub last-pos : 0 < offsetOf w s n
-  pub inside : reach w s n ≤ length s
 
 -- What a read that is accepted with n entries and t bytes has found.
 pub data Shape (w : ℕ) (s : List ℕ) (n t : ℕ) : Type 0 where
@@ -129,7 +106,8 @@ module _ (w : ℕ) (s : List ℕ) where
     to-last =
         let z = getD s w 0 in
         let z≢ : z ≡ 0 → ⊥ = λ e. omega arith in
-        let t : byLast s n (dataStart w n z) (offset w s z n) ≡ bySize w s n z = rw (ne-eqb z 0 z≢, le-ltb 4 z (h .size-le), le-ltb (length s) (dataStart w n z) (h .offsets)) in
+        let d = dataStart w n z in
+        let t : byLast s n d (offset w s z n) ≡ bySize w s n z = rw (ne-eqb z 0 z≢, le-ltb 4 z (h .size-le), le-ltb (length s) d (h .offsets)) in
         t ∙ to-size (h .count) (h .some) (omega (arith, start-is w n z))
 
     pub last-zero : offsetOf w s n ≡ 0 → has 0 (dataOf w s n) ≡ extent w s
@@ -191,8 +169,9 @@ module _ (w : ℕ) (s : List ℕ) (n t : ℕ) where
       let there = past (ltb (length s) (dataStart w m z)) 20 _ (sized .1) in
       let sizes = or-none (eqb z 0) (ltb 4 z) (sized .0) in
       let z≢ : z ≡ 0 → ⊥ = eqb-false z 0 (sizes .0) in
+      let offsets = ltb-false (length s) (dataStart w m z) (there .0) in
       let head : Headed w s m =
-      record { count = refl; some = omega arith; size-pos = omega arith; size-le = ltb-false 4 z (sizes .1); offsets = ltb-false (length s) (dataStart w m z) (there .0) } in
+      record { count = refl; some = omega arith; size-pos = omega arith; size-le = ltb-false 4 z (sizes .1); offsets = offsets } in
       by-last m head (eqb (offset w s z m) 0) refl (there .1)
 
   module _ (e : has n t ≡ extent w s) where
@@ -326,11 +305,6 @@ between i x d a b p m h =
       at = ap start-of (same (g .1));
       long = ap size-of (same (g .1));
     }
-
--- an entry's part lies within the bytes, if there is one
-abbrev pub Inside : List ℕ → Answer Place → Type 0
-Inside s (accepted p) = p .start + p .size ≤ length s
-Inside s (refused k v) = Unit {0}
 
 pub between-inside : (i : ℕ) (x : Extent) (d a b : ℕ) (s : List ℕ) → x .taken ≤ length s → (y : Answer Place) → y ≡ placeBy i x d a b → Inside s y
 between-inside i x d a b s h (accepted p) e = let g = between i x d a b (p .start) (p .size) e in omega arith

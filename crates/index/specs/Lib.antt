@@ -1,5 +1,6 @@
 pub mod Index
 pub mod Formed
+pub mod Code
 pub mod OffsetLaws
 pub mod IndexLaws
 pub mod FormedLaws

@@ -10,6 +10,7 @@ use lib.Pow.{pow-add, high, low, ones-split, ones-lt}
 use Rattle.number.specs.BigEndian.{beAt}
 use Rattle.number.specs.BigEndianLaws.{be-lt}
 use Rattle.index.specs.Index.{dataStart, offset}
+use Rattle.index.specs.Code.{Sized}
 
 -- ---- where the data start
 
@@ -31,7 +32,11 @@ product-small m {n} {z} h k = mul-le-mul {n₁ = n + 1} {m₁ = z} {n₂ = m} {m
 
 -- ---- a big-endian number by its last bytes
 
--- four bytes, as the code joins them
+-- two bytes and four, as the code joins them
+pub two-bytes : (s : List ℕ) (at : ℕ) {a b : ℕ} → a ≡ getD s at 0 → b ≡ getD s (at + 1) 0 → a * 256 + b ≡ beAt s at 2
+unfolding beAt
+two-bytes s at p q = rw (p, q, add-zero at) (omega arith)
+
 pub four-bytes : (s : List ℕ) (at : ℕ) {a b c d : ℕ} → a ≡ getD s at 0 → b ≡ getD s (at + 1) 0 → c ≡ getD s (at + 2) 0 → d ≡ getD s (at + 3) 0
     → ((a * 256 + b) * 256 + c) * 256 + d ≡ beAt s at 4
 unfolding beAt
@@ -52,15 +57,9 @@ last-bytes s at j k bytes = rw (be-split s at j k) (low (beAt s at j) (8 * k) (b
 
 -- ---- an offset
 
--- an offset size, and the mask that keeps so many low bytes
-pub record Sized (z mask : ℕ) : Type 0 where
-  pub some : 0 < z
-  pub four : z ≤ 4
-  pub ones : mask ≡ 2 ^ (8 * z) - 1
-
 module _ (w : ℕ) (s : List ℕ) (bytes : (i : ℕ) → getD s i 0 < 256) where
   -- of every size: the low bytes of the four that end where the offset ends
-  pub offset-low : {z mask : ℕ} (i : ℕ) → 3 ≤ w + 1 → Sized z mask → bitAnd (beAt s (dataStart w i z - 4) 4) mask ≡ offset w s z i
+  pub offset-low : {z mask : ℕ} (i : ℕ) → 2 ≤ w → Sized z mask → bitAnd (beAt s (dataStart w i z - 4) 4) mask ≡ offset w s z i
   unfolding offset
   offset-low {z} {mask} i h k =
       let e : 4 - z + z ≡ 4 = omega arith in

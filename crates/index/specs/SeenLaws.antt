@@ -1,4 +1,5 @@
--- The laws of an entry by a count and an offset size that are known: what it answers, and that of an INDEX's own bytes it is the plain reader's. Assumes nothing.
+-- The laws of an entry by a count and an offset size that are known: what it answers, and that of an INDEX's own bytes it is the plain
+-- reader's. Assumes nothing.
 use mathlib.Core.Path.{_≡_, refl, sym, ap, _∙_, subst}
 use mathlib.Core.Bool.{Bool, true, false, _||_}
 use mathlib.Core.List.{List, [], _++_}
@@ -10,8 +11,9 @@ use lib.ListN.{length, getD, take, drop, take-append-drop}
 use lib.Seq.{length-take-le}
 use borrow.Author.Tests.{lt-ltb, le-ltb, le-leb, lt-leb, eq-eqb, ne-eqb, ltb-true, ltb-false}
 use Rattle.number.specs.Answer.{Answer, accepted, refused, alone}
-use Rattle.index.specs.Index.{Place, dataStart, offset, extent, placeBy, place, placeSeen, partBy, partAt, partSeen, bytesBy, startBy}
-use Rattle.index.specs.IndexLaws.{has, offsetOf, Full, reach, Inside, entries-full, taken-le, past-count, to-place-by, between-inside, or-true, past}
+use Rattle.index.specs.Index.{Extent, Place, dataStart, offset, extent, placeBy, place, placeSeen, partBy, partAt, partSeen, bytesBy, startBy}
+use Rattle.index.specs.Code.{offsetOf, reach, Full, Inside}
+use Rattle.index.specs.IndexLaws.{has, entries-full, taken-le, past-count, to-place-by, between-inside, or-true, past}
 use Rattle.index.specs.OffsetLaws.{start-mono}
 use Rattle.index.specs.AfterLaws.{offset-after, bytes-after}
 
@@ -46,7 +48,8 @@ module _ (w : ℕ) (s : List ℕ) (n z i : ℕ) where
   seen-inside (refused k v) e = tt
   seen-inside (accepted p) e =
       let g = past (leb n i || (eqb z 0 || (ltb 4 z || ltb (length s) (dataStart w n z)))) 25 _ e in
-      between-inside i (record { entries = n; taken = length s }) (dataStart w n z) (offset w s z i) (offset w s z (i + 1)) s (le-refl (length s)) (accepted p) (g .1)
+      let x : Extent = record { entries = n; taken = length s } in
+      between-inside i x (dataStart w n z) (offset w s z i) (offset w s z (i + 1)) s (le-refl (length s)) (accepted p) (g .1)
 
 -- ---- of an INDEX's own bytes
 
@@ -61,8 +64,13 @@ module _ (w : ℕ) (own r : List ℕ) (n i : ℕ) (h : i < n) (f : Full w (own +
       sym (seen-between w own n (getD (own ++ r) w 0) i h (f .head .size-pos) (f .head .size-le) (omega arith))
       ∙ to-place-by w (own ++ r) i f (same-offset i (omega arith)) (same-offset (i + 1) (omega arith)) t
 
--- An INDEX that is read with n entries and t bytes, and whose size byte is z if it has entries: in its own bytes alone each entry lies where the plain reader finds it.
+-- An INDEX that is read with n entries and t bytes, and whose size byte is z if it has entries: in its own bytes alone each entry lies
+-- where the plain reader finds it.
 module _ (w : ℕ) (s : List ℕ) (n t z i : ℕ) (e : has n t ≡ extent w s) (sized : 0 < n → z ≡ getD s w 0) where
+  -- in bytes l that start with the INDEX's own
+  abbrev Same : List ℕ → Type 0
+  Same l = Full w l n → length (take t s) ≡ reach w l n → placeSeen w (take t s) n (getD l w 0) i ≡ place w l i
+
   pub place-seen : placeSeen w (take t s) n z i ≡ place w s i
   place-seen = go (ltb i n) refl
     where
@@ -74,12 +82,13 @@ module _ (w : ℕ) (s : List ℕ) (n t z i : ℕ) (e : has n t ≡ extent w s) (
           let f = entries-full w s n t e (omega arith) in
           let long : length (take t s) ≡ reach w s n = length-take-le t s (taken-le w s n t e) ∙ f .1 in
           ap (λ (k : ℕ). placeSeen w (take t s) n k i) (sized (omega arith))
-          ∙ subst (λ (l : List ℕ). Full w l n → length (take t s) ≡ reach w l n → placeSeen w (take t s) n (getD l w 0) i ≡ place w l i) (take-append-drop t s) (same-place w (take t s) (drop t s) n i h) (f .0) long
+          ∙ subst Same (take-append-drop t s) (same-place w (take t s) (drop t s) n i h) (f .0) long
 
   pub part-seen : (at : ℕ × ℕ) → partSeen w at (take t s) n z i ≡ partAt w at s i
   unfolding partBy
   part-seen at =
       let x = placeSeen w (take t s) n z i in
-      let kept = subst (λ (l : List ℕ). bytesBy l x ≡ bytesBy (take t s) x) (take-append-drop t s) (bytes-after (take t s) (drop t s) x (seen-inside w (take t s) n z i x refl)) in
+      let after = bytes-after (take t s) (drop t s) x (seen-inside w (take t s) n z i x refl) in
+      let kept = subst (λ (l : List ℕ). bytesBy l x ≡ bytesBy (take t s) x) (take-append-drop t s) after in
       ap (λ (l : List ℕ). record { at = startBy at x; bytes = l }) (sym kept)
       ∙ ap (λ (y : Answer Place). record { at = startBy at y; bytes = bytesBy s y }) place-seen

@@ -3,12 +3,15 @@ use crate::offset::mask_of;
 use crate::offset::offset_at;
 use crate::read::IndexRead;
 use crate::read::read_index;
+use crate::width::Width;
+use crate::width::width_of;
 ghost use mathlib.Core.Path.{_≡_};
 ghost use Prim.Native.Nat.{_+_, _<_, _≤_};
 ghost use lib.ListN.{length};
 ghost use denote.Ref.{ptr};
-ghost use Rattle.index.specs.Index.{dataStart, offset, placeBy, place, placeSeen, partBy, partAt, partSeen, entryRead};
-ghost use Rattle.index.specs.IndexLaws.{Inside};
+ghost use Rattle.number.specs.Answer.{numberIn};
+ghost use Rattle.index.specs.Index.{widthOf, dataStart, placeOf, place, placeSeen, partBy, partAt, partSeen, entryRead};
+ghost use Rattle.index.specs.Code.{Inside};
 
 // What reading an entry finds.
 pub enum EntryRead {
@@ -22,26 +25,41 @@ pub enum EntryRead {
     Absent,
 }
 
+impl EntryRead {
+    // The number of the answer: 0, or the refusal's.
+    pub fn number(self) -> u32
+        ensures { λ r. ⌜ r ≡ numberIn (entryRead self) ⌝ }
+    {
+        match self {
+            EntryRead::Entry(_, _) => 0,
+            EntryRead::Lacking => 20,
+            EntryRead::BadSize => 21,
+            EntryRead::Absent => 25,
+        }
+    }
+}
+
 // Entry `number` of the INDEX at the start of s.
-pub fn read_entry(s: &[u8], number: u32) -> EntryRead
-    ensures { λ r. ⌜ entryRead r ≡ place 2 (now (s .entry)) number ⌝ }
+pub fn read_entry(s: &[u8], width: Width, number: u32) -> EntryRead
+    ensures { λ r. ⌜ entryRead r ≡ place (widthOf width) (now (s .entry)) number ⌝ }
 {
-    match read_index(s) {
+    match read_index(s, width) {
         IndexRead::Lacking => EntryRead::Lacking,
         IndexRead::BadSize => EntryRead::BadSize,
         IndexRead::Read(count, taken) => {
             if count <= number {
                 return EntryRead::Absent;
             }
-            entry_between(s, count, s[2] as usize, taken, number)
+            let bytes = width_of(width);
+            entry_between(s, bytes, count, s[bytes] as usize, taken, number)
         }
     }
 }
 
 // Entry `number` where the count and the offset size are known, and s is the INDEX's own bytes. Any
 // count and size may be given, so both are tried.
-pub fn entry_in(s: &[u8], count: u32, size: usize, number: u32) -> EntryRead
-    ensures { λ r. ⌜ entryRead r ≡ placeSeen 2 (now (s .entry)) count size number ⌝ }
+pub fn entry_in(s: &[u8], width: Width, count: u32, size: usize, number: u32) -> EntryRead
+    ensures { λ r. ⌜ entryRead r ≡ placeSeen (widthOf width) (now (s .entry)) count size number ⌝ }
 {
     if count <= number {
         return EntryRead::Absent;
@@ -52,22 +70,30 @@ pub fn entry_in(s: &[u8], count: u32, size: usize, number: u32) -> EntryRead
     if 4 < size {
         return EntryRead::Absent;
     }
-    if s.len() < 3 + (count as usize + 1) * size {
+    let bytes = width_of(width);
+    if s.len() < bytes + 1 + (count as usize + 1) * size {
         return EntryRead::Absent;
     }
-    entry_between(s, count, size, s.len(), number)
+    entry_between(s, bytes, count, size, s.len(), number)
 }
 
 // Entry `number` by its two offsets, of an INDEX that has it and all its offsets, and ends at `end`.
-fn entry_between(s: &[u8], count: u32, size: usize, end: usize, number: u32) -> EntryRead
-    requires { ⌜ (number < count) × (0 < size) × (size ≤ 4) × (dataStart 2 count size ≤ length (now s)) ⌝ }
-    ensures { λ r. ⌜ entryRead r ≡ placeBy number (record { entries = count; taken = end }) (dataStart 2 count size) (offset 2 (now (s .entry)) size number) (offset 2 (now (s .entry)) size (number + 1)) ⌝ }
+fn entry_between(
+    s: &[u8],
+    width: usize,
+    count: u32,
+    size: usize,
+    end: usize,
+    number: u32,
+) -> EntryRead
+    requires { ⌜ (2 ≤ width) × (number < count) × (0 < size) × (size ≤ 4) × (dataStart width count size ≤ length (now s)) ⌝ }
+    ensures { λ r. ⌜ entryRead r ≡ placeOf width (now (s .entry)) (record { entries = count; taken = end }) size number ⌝ }
 {
     let mask = mask_of(size);
-    let start = 3 + (count as usize + 1) * size;
+    let start = width + 1 + (count as usize + 1) * size;
     let i = number as usize;
-    let a = offset_at(s, size, mask, i);
-    let b = offset_at(s, size, mask, i + 1);
+    let a = offset_at(s, width, size, mask, i);
+    let b = offset_at(s, width, size, mask, i + 1);
     if a == 0 {
         return EntryRead::Absent;
     }
@@ -82,17 +108,17 @@ fn entry_between(s: &[u8], count: u32, size: usize, end: usize, number: u32) -> 
 
 // The bytes of entry `number` where they stand in s, not copied, or the empty part at the start of
 // s where `read_entry` refuses. `ptr` is where a slice starts.
-pub fn entry_part(s: &[u8], number: u32) -> &[u8]
-    ensures { λ r. ⌜ record { at = ptr r; bytes = now r } ≡ partAt 2 (ptr (s .entry)) (now (s .entry)) number ⌝ }
+pub fn entry_part(s: &[u8], width: Width, number: u32) -> &[u8]
+    ensures { λ r. ⌜ record { at = ptr r; bytes = now r } ≡ partAt (widthOf width) (ptr (s .entry)) (now (s .entry)) number ⌝ }
 {
-    part_of(s, read_entry(s, number))
+    part_of(s, read_entry(s, width, number))
 }
 
 // As `entry_part`, but by `entry_in`.
-pub fn part_in(s: &[u8], count: u32, size: usize, number: u32) -> &[u8]
-    ensures { λ r. ⌜ record { at = ptr r; bytes = now r } ≡ partSeen 2 (ptr (s .entry)) (now (s .entry)) count size number ⌝ }
+pub fn part_in(s: &[u8], width: Width, count: u32, size: usize, number: u32) -> &[u8]
+    ensures { λ r. ⌜ record { at = ptr r; bytes = now r } ≡ partSeen (widthOf width) (ptr (s .entry)) (now (s .entry)) count size number ⌝ }
 {
-    part_of(s, entry_in(s, count, size, number))
+    part_of(s, entry_in(s, width, count, size, number))
 }
 
 // The part of s that an answer tells of.

@@ -3,6 +3,7 @@ mod entry;
 mod list;
 mod offset;
 mod read;
+mod width;
 
 pub use crate::entry::EntryRead;
 pub use crate::entry::entry_in;
@@ -12,5 +13,5 @@ pub use crate::entry::read_entry;
 pub use crate::list::Formed;
 pub use crate::list::well_formed;
 pub use crate::read::IndexRead;
-pub use crate::read::Width;
 pub use crate::read::read_index;
+pub use crate::width::Width;

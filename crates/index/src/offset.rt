@@ -1,27 +1,31 @@
 // The numbers at the head of an INDEX: its count, and its offsets of 1 to 4 bytes by one rule.
+use crate::width::Width;
 ghost use mathlib.Core.Path.{_≡_};
 ghost use Prim.Native.Nat.{_+_, _<_, _≤_};
 ghost use lib.ListN.{length};
 ghost use Rattle.number.specs.BigEndian.{beAt};
-ghost use Rattle.index.specs.Index.{dataStart, offset};
-ghost use Rattle.index.specs.OffsetLaws.{Sized};
+ghost use Rattle.index.specs.Index.{widthOf, dataStart, offset};
+ghost use Rattle.index.specs.Code.{Sized};
 
-// The count, of two bytes.
-pub(crate) fn count_at(s: &[u8]) -> u32
-    requires { ⌜ 2 ≤ length (now s) ⌝ }
-    ensures { λ r. ⌜ (r ≡ beAt (now (s .entry)) 0 2) × (r < 65536) ⌝ }
+// The count.
+pub(crate) fn count_at(s: &[u8], width: Width) -> u32
+    requires { ⌜ widthOf width ≤ length (now s) ⌝ }
+    ensures { λ r. ⌜ r ≡ beAt (now (s .entry)) 0 (widthOf width) ⌝ }
 {
-    wide(s[0]) * 256 + wide(s[1])
+    match width {
+        Width::Two => wide(s[0]) * 256 + wide(s[1]),
+        Width::Four => word(s, 0),
+    }
 }
 
 // Offset i. Its bytes are the low ones of the four that end where it ends: the count and the size
 // byte stand before the offsets, so those four are always there.
-pub(crate) fn offset_at(s: &[u8], size: usize, mask: u32, i: usize) -> usize
+pub(crate) fn offset_at(s: &[u8], width: usize, size: usize, mask: u32, i: usize) -> usize
     requires { ⌜ Sized size mask ⌝ }
-    requires { ⌜ dataStart 2 i size ≤ length (now s) ⌝ }
-    ensures { λ r. ⌜ (r ≡ offset 2 (now (s .entry)) size i) × (r < 4294967296) ⌝ }
+    requires { ⌜ (2 ≤ width) × (dataStart width i size ≤ length (now s)) ⌝ }
+    ensures { λ r. ⌜ (r ≡ offset width (now (s .entry)) size i) × (r < 4294967296) ⌝ }
 {
-    let end = 3 + (i + 1) * size;
+    let end = width + 1 + (i + 1) * size;
     (word(s, end - 4) & mask) as usize
 }
 

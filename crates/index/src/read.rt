@@ -2,14 +2,14 @@
 use crate::offset::count_at;
 use crate::offset::mask_of;
 use crate::offset::offset_at;
+use crate::width::Width;
+use crate::width::width_of;
 ghost use mathlib.Core.Path.{_≡_};
-ghost use Rattle.index.specs.Index.{extent, indexRead};
-
-// How many bytes the count of an INDEX has: two in CFF.
-pub enum Width {
-    Two,
-    Four,
-}
+ghost use Prim.Native.Nat.{_≤_};
+ghost use lib.ListN.{length};
+ghost use Rattle.number.specs.BigEndian.{beAt};
+ghost use Rattle.number.specs.Answer.{numberIn};
+ghost use Rattle.index.specs.Index.{widthOf, extent, indexRead};
 
 // What reading an INDEX finds.
 pub enum IndexRead {
@@ -21,32 +21,54 @@ pub enum IndexRead {
     BadSize,
 }
 
+impl IndexRead {
+    // The number of the answer: 0, or the refusal's.
+    pub fn number(self) -> u32
+        ensures { λ r. ⌜ r ≡ numberIn (indexRead self) ⌝ }
+    {
+        match self {
+            IndexRead::Read(_, _) => 0,
+            IndexRead::Lacking => 20,
+            IndexRead::BadSize => 21,
+        }
+    }
+}
+
 // The INDEX at the start of s; bytes after it are ignored.
-pub fn read_index(s: &[u8]) -> IndexRead
-    ensures { λ r. ⌜ indexRead r ≡ extent 2 (now (s .entry)) ⌝ }
+pub fn read_index(s: &[u8], width: Width) -> IndexRead
+    ensures { λ r. ⌜ indexRead r ≡ extent (widthOf width) (now (s .entry)) ⌝ }
 {
-    if s.len() < 2 {
+    let bytes = width_of(width);
+    if s.len() < bytes {
         return IndexRead::Lacking;
     }
-    let count = count_at(s);
+    read_behind(s, bytes, count_at(s, width))
+}
+
+// The INDEX whose count has `width` bytes and is known.
+fn read_behind(s: &[u8], width: usize, count: u32) -> IndexRead
+    requires { ⌜ (2 ≤ width) × (width ≤ length (now s)) × (width ≤ 4) ⌝ }
+    requires { ⌜ count ≡ beAt (now s) 0 width ⌝ }
+    ensures { λ r. ⌜ indexRead r ≡ extent width (now (s .entry)) ⌝ }
+{
     if count == 0 {
-        return IndexRead::Read(0, 2);
+        return IndexRead::Read(0, width);
     }
-    if s.len() < 3 {
+    if s.len() < width + 1 {
         return IndexRead::Lacking;
     }
-    let size = s[2] as usize;
+    let size = s[width] as usize;
     if size == 0 {
         return IndexRead::BadSize;
     }
     if 4 < size {
         return IndexRead::BadSize;
     }
-    let start = 3 + (count as usize + 1) * size;
+    let start = width + 1 + (count as usize + 1) * size;
     if s.len() < start {
         return IndexRead::Lacking;
     }
-    let last = offset_at(s, size, mask_of(size), count as usize);
+    let last = offset_at(s, width, size, mask_of(size), count as usize);
     if last == 0 {
         return IndexRead::Read(0, start);
     }

@@ -1,3 +1,4 @@
 pub mod View
+pub mod Code
 pub mod ViewLaws
 pub mod Examples

@@ -11,16 +11,10 @@ use Rattle.index.specs.Index.{Extent, extent, place, placeIn, partBy, partAt}
 use Rattle.index.specs.IndexLaws.{has, entries-full, part-none}
 use Rattle.index.specs.OffsetLaws.{start-is}
 use Rattle.index.specs.SeenLaws.{seen-past, part-seen}
+use Rattle.index_view.specs.Code.{headBy, headOf}
 use Rattle.index_view.specs.View.{viewBy, viewOf, viewPart}
 
 -- ---- what a view is made of
-
-unfoldable pub headBy : ℕ → List ℕ → Answer Extent → Head
-headBy w s (accepted x) = record { taken = x .taken; count = x .entries; size = getD (take (x .taken) s) w 0 }
-headBy w s (refused k v) = record { taken = 0; count = 0; size = 0 }
-
-unfoldable pub headOf : ℕ → List ℕ → Head
-headOf w s = headBy w s (extent w s)
 
 module _ (w : ℕ) (s : List ℕ) where
   pub head-read : {n t z : ℕ} → has n t ≡ extent w s → z ≡ getD (take t s) w 0 → record { taken = t; count = n; size = z } ≡ headOf w s
@@ -55,7 +49,7 @@ module _ (w : ℕ) (at : ℕ × ℕ) (s : List ℕ) (i : ℕ) where
   unfolding viewBy place placeIn
   by-extent (refused k v) e =
       let y : refused k v ≡ place w s i = rw (← e) in
-      ap (partBy at []) (sym (seen-past w [] 0 0 i (omega arith))) ∙ sym (part-none at [] 25 []) ∙ part-none at s k v ∙ ap (partBy at s) y
+      ap (partBy at []) (sym (seen-past w [] 0 0 i (omega arith))) ∙ sym (part-none at [] 25 alone) ∙ part-none at s k v ∙ ap (partBy at s) y
   by-extent (accepted x) e = part-seen w s (x .entries) (x .taken) (getD (take (x .taken) s) w 0) i e sized at
     where
       sized : 0 < x .entries → getD (take (x .taken) s) w 0 ≡ getD s w 0

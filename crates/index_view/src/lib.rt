@@ -1,14 +1,16 @@
-// A view of one INDEX: it keeps the INDEX's bytes and what each look-up would else find anew. A
+// A view of one INDEX: it keeps the INDEX's bytes and what each look-up would else find anew. It is
+// of CFF's INDEX, whose count has two bytes: the definitions take the width, this code does not. A
 // struct that holds a slice is walked by hand, so the work is in functions with plain parameters.
 use index::IndexRead;
+use index::Width;
 use index::part_in;
 use index::read_index;
 ghost use mathlib.Core.Path.{_≡_};
 ghost use lib.ListN.{take};
 ghost use denote.Ref.{ptr};
-ghost use Rattle.index.specs.Index.{partAt};
+ghost use Rattle.index.specs.Index.{partAt, partSeen};
 ghost use Rattle.index_view.specs.View.{seen, viewOf, viewPart};
-ghost use Rattle.index_view.specs.ViewLaws.{headOf};
+ghost use Rattle.index_view.specs.Code.{headOf};
 
 // An INDEX's own bytes, how many entries it has, and of how many bytes an offset is. Of bytes that
 // are no INDEX there is nothing to see.
@@ -34,7 +36,7 @@ pub fn view_index<'a>(s: &'a [u8]) -> View<'a>
 pub fn view_part<'a>(v: View<'a>, number: u32) -> &'a [u8]
     ensures { λ r. ⌜ record { at = ptr r; bytes = now r } ≡ viewPart 2 (seen (v .entry)) number ⌝ }
 {
-    part_in(v.bytes, v.count, v.size, number)
+    part_known(v.bytes, v.count, v.size, number)
 }
 
 // What `entry_part` answers, by a view.
@@ -54,7 +56,7 @@ struct Head {
 fn head_of(s: &[u8]) -> Head
     ensures { λ r. ⌜ r ≡ headOf 2 (now (s .entry)) ⌝ }
 {
-    let IndexRead::Read(count, taken) = read_index(s) else {
+    let IndexRead::Read(count, taken) = read_index(s, Width::Two) else {
         return Head {
             taken: 0,
             count: 0,
@@ -73,6 +75,13 @@ fn head_of(s: &[u8]) -> Head
         count,
         size: s[2] as usize,
     }
+}
+
+// The bytes of entry `number` where the count and the offset size are known.
+fn part_known(s: &[u8], count: u32, size: usize, number: u32) -> &[u8]
+    ensures { λ r. ⌜ record { at = ptr r; bytes = now r } ≡ partSeen 2 (ptr (s .entry)) (now (s .entry)) count size number ⌝ }
+{
+    part_in(s, Width::Two, count, size, number)
 }
 
 // The first n bytes of s, or all of them.

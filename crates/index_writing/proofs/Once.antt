@@ -1,35 +1,48 @@
--- The contract of `write_index` fixes its result and what it leaves: any two that it allows for the same arguments are one. Stated over the
--- contract's own reading. Assumes nothing.
+-- Each public function's contract fixes its result, and `write_index`'s what it leaves: any two that it allows for the same arguments are
+-- one. Stated over the contracts' own readings. Assumes nothing.
 use mathlib.Core.Path.{_≡_, refl, sym, ap, _∙_}
 use mathlib.Core.Bool.{cond}
 use Prim.Native.Nat.{ℕ}
 use lib.Dec.{eqb}
-use lib.ListN.{getD}
 use borrow.Fn.Kinds.{Dens, resT, endedOf}
 use contract.Lifetimes.{Lfts}
 use denote.Triple.Clauses.{AtExit}
-use Rattle.number.specs.Answer.{Answer, accepted, refused, Outcome}
+use Rattle.number.specs.Answer.{Values, alone, atToken, needing, needingAt, Answer, accepted, refused, Outcome}
 use Rattle.index_writing.specs.Writing.{indexWritten}
 use Rattle.index_writing.specs.declared.IndexWritten.{IndexWritten}
 use Rattle.index_writing.specs.declared.IndexWritten.the-variants.{Bytes, NoRoom, TooMany, TooLong, Mismatch}
+use Rattle.index_writing.proofs.IndexWritten.number.Kinds as number-kinds
+use Rattle.index_writing.proofs.IndexWritten.number.Reads as number-reads
 use Rattle.index_writing.proofs.write_index.Kinds as kinds
 use Rattle.index_writing.proofs.write_index.Reads as reads
+
+-- the length that is needed, where one comes with the refusal
+length-in : Values → ℕ
+length-in alone = 0
+length-in (atToken n) = 0
+length-in (needing n) = n
+length-in (needingAt n t) = n
 
 -- the way back, from what an answer says to the answer
 written-of : Answer ℕ → IndexWritten
 written-of (accepted n) = Bytes n
-written-of (refused k v) = cond (eqb k 13) (NoRoom (getD v 0 0)) (cond (eqb k 22) TooMany (cond (eqb k 23) TooLong Mismatch))
+written-of (refused k v) = cond (eqb k 13) (NoRoom (length-in v)) (cond (eqb k 22) TooMany (cond (eqb k 23) TooLong Mismatch))
 
 written-undo : (r : IndexWritten) → written-of (indexWritten r) ≡ r
-unfolding written-of
+unfolding written-of length-in
 written-undo (Bytes n) = refl
 written-undo (NoRoom n) = refl
 written-undo TooMany = refl
 written-undo TooLong = refl
 written-undo Mismatch = refl
 
+pub number-once : (κs : Lfts 0) (a : Dens κs number-kinds.ps) (r r′ : resT number-kinds.r κs .Denot)
+    (x x′ : AtExit (endedOf 0 number-kinds.ps number-kinds.r) κs)
+    → number-reads.Post κs a r x → number-reads.Post κs a r′ x′ → r ≡ r′
+number-once κs a r r′ x x′ p p′ = p ∙ sym p′
+
 pub write-index-once : (κs : Lfts 3) (a : Dens κs kinds.ps) (r r′ : resT kinds.r κs .Denot) (x x′ : AtExit (endedOf 3 kinds.ps kinds.r) κs)
     → reads.Post κs a r x → reads.Post κs a r′ x′ → (r ≡ r′) × (x .1 .1 .0 .now ≡ x′ .1 .1 .0 .now)
 write-index-once κs a r r′ x x′ p p′ =
     let e = p ∙ sym p′ in
-    (sym (written-undo r) ∙ ap (λ (o : Outcome). written-of (o .answer)) e ∙ written-undo r′, ap (λ (o : Outcome). o .left) e)
+    (sym (written-undo r) ∙ ap (λ (o : Outcome (Answer ℕ)). written-of (o .answer)) e ∙ written-undo r′, ap (λ (o : Outcome (Answer ℕ)). o .left) e)

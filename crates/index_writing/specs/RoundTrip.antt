@@ -10,17 +10,19 @@ use lib.Dec.{leb, ltb, eqb}
 use lib.ListN.{length, getD, take, drop, length-append, length-drop}
 use lib.Seq.{length-take-le, take-length, drop-append-add, getD-at}
 use borrow.Author.Tests.{leb-true, leb-false, ltb-false, eqb-true, eqb-false}
-use Rattle.number.specs.Answer.{Answer, accepted, refused, Outcome, alone, needing}
+use Rattle.number.specs.Answer.{Answer, accepted, refused, alone, needing, mapped, Outcome, sized, into}
 use Rattle.number.specs.BigEndian.{beAt, bytesOf}
 use Rattle.number.specs.BigEndianLaws.{length-bytes, be-bytes}
 use Rattle.index.specs.Index.{dataStart, offset, extent, place, part}
-use Rattle.index.specs.IndexLaws.{has, lies, not-refused, Headed, Full, Held, reach, full-read, held-place, part-is, count-zero}
+use Rattle.index.specs.Code.{Headed, reach, Full}
+use Rattle.index.specs.IndexLaws.{has, lies, not-refused, Held, full-read, held-place, part-is, count-zero}
 use Rattle.index.specs.OffsetLaws.{start-is}
 use Rattle.index.specs.Formed.{yes, formation}
 use Rattle.index.specs.FormedLaws.{formed-yes}
 use Rattle.index.specs.AfterLaws.{read-after, part-after, formation-after}
-use Rattle.index_writing.specs.Writing.{total, element, sizeFor, offsets, indexBytes, indexOf, stored, writeIndex}
-use Rattle.index_writing.specs.WritingLaws.{size-holds, length-offsets, Writable, reach-none, index-some, length-some, length-index, wrote}
+use Rattle.index_writing.specs.Writing.{total, element, sizeFor, offsets, indexBytes, indexOf, writeIndex}
+use Rattle.index_writing.specs.Code.{Writable}
+use Rattle.index_writing.specs.WritingLaws.{size-holds, length-offsets, reach-none, index-some, length-some, length-index, wrote}
 
 -- ---- the lengths before an element
 
@@ -56,7 +58,10 @@ be-offsets z a (l ∷ ls) p tail (suc i) h k =
     let long : length q ≡ length p + z = length-append p (bytesOf z a) ∙ ap (λ (n : ℕ). length p + n) (length-bytes z a) in
     let at : length q + i * z ≡ length p + suc i * z = omega (arith, start-is 0 i z) in
     let back = be-offsets z (a + l) ls q tail i (omega arith) (omega arith) in
-    ap (λ (x : List ℕ). beAt x (length p + suc i * z) z) (sym joins) ∙ ap (λ (n : ℕ). beAt (q ++ (offsets z (a + l) ls ++ tail)) n z) (sym at) ∙ back ∙ omega arith
+    ap (λ (x : List ℕ). beAt x (length p + suc i * z) z) (sym joins)
+    ∙ ap (λ (n : ℕ). beAt (q ++ (offsets z (a + l) ls ++ tail)) n z) (sym at)
+    ∙ back
+    ∙ omega arith
 
 -- ---- an INDEX with elements
 
@@ -81,7 +86,8 @@ module _ (w : ℕ) (ls joined : List ℕ) where
   data-back k =
       let head = count ++ (size ∷ offsets size 1 ls) in
       let split : s ≡ head ++ joined = simp append-assoc in
-      let long : dataStart w (length ls) size ≡ length head = rw (length-append count (size ∷ offsets size 1 ls), length-bytes w (length ls), length-offsets size 1 ls) (omega arith) in
+      let long : dataStart w (length ls) size ≡ length head =
+      rw (length-append count (size ∷ offsets size 1 ls), length-bytes w (length ls), length-offsets size 1 ls) (omega arith) in
       rw (split, long) (drop-append-add head joined k)
 
   module _ (can : Writable w ls joined) where
@@ -147,7 +153,8 @@ module _ (w : ℕ) (ls joined : List ℕ) (can : Writable w ls joined) where
           rw (none, long) (count-zero w bytes (sym count-back) (omega arith) none)
       go false e =
           let some : length ls ≡ 0 → ⊥ = eqb-false (length ls) 0 e in
-          rw (← index-some w ls joined some, length-some w ls joined) (full-read w (s w ls joined) (full-back w ls joined can (omega arith)) (reach-back w ls joined can))
+          rw (← index-some w ls joined some, length-some w ls joined)
+          (full-read w (s w ls joined) (full-back w ls joined can (omega arith)) (reach-back w ls joined can))
 
   module _ (i : ℕ) (h : i < length ls) where
     abbrev at : ℕ
@@ -207,33 +214,40 @@ module _ (w : ℕ) (ls joined : List ℕ) where
   unfolding indexOf
   index-accepted b e = go (leb (2 ^ (8 * w)) (length ls)) refl (ltb 4294967295 (total ls + 1)) refl (eqb (total ls) (length joined)) refl e
     where
-      go : (many : Bool) → leb (2 ^ (8 * w)) (length ls) ≡ many → (big : Bool) → ltb 4294967295 (total ls + 1) ≡ big → (adds : Bool) → eqb (total ls) (length joined) ≡ adds
+      go : (many : Bool) → leb (2 ^ (8 * w)) (length ls) ≡ many → (big : Bool) → ltb 4294967295 (total ls + 1) ≡ big
+          → (adds : Bool) → eqb (total ls) (length joined) ≡ adds
           → accepted b ≡ cond many (refused 22 alone) (cond big (refused 23 alone) (cond adds (accepted (indexBytes w ls joined)) (refused 24 alone)))
           → Writable w ls joined × (b ≡ indexBytes w ls joined)
       go true p big q adds r e = absurd (not-refused e)
       go false p true q adds r e = absurd (not-refused e)
       go false p false q false r e = absurd (not-refused e)
       go false p false q true r e =
-          (record { few = leb-false (2 ^ (8 * w)) (length ls) p; short = ltb-false 4294967295 (total ls + 1) q; adds = eqb-true (total ls) (length joined) r }, cc)
+          let few = leb-false (2 ^ (8 * w)) (length ls) p in
+          (record { few = few; short = ltb-false 4294967295 (total ls + 1) q; adds = eqb-true (total ls) (length joined) r }, cc)
 
   module _ (out : List ℕ) (n : ℕ) (l : List ℕ) (e : wrote (accepted n) l ≡ writeIndex w ls joined out) where
     pub write-accepted : Written w ls joined out n l
-    unfolding writeIndex stored
+    unfolding writeIndex into
     write-accepted = by-index (indexOf w ls joined) refl e
       where
         by-room : (b : List ℕ) → accepted b ≡ indexOf w ls joined → (t : Bool) → leb (length b) (length out) ≡ t
             → wrote (accepted n) l ≡ cond t (wrote (accepted (length b)) (b ++ drop (length b) out)) (wrote (refused 13 (needing (length b))) out)
             → Written w ls joined out n l
-        by-room b i false h e = absurd (not-refused (ap (λ (o : Outcome). o .answer) e))
+        by-room b i false h e = absurd (not-refused (ap (λ (o : Outcome (Answer ℕ)). o .answer) e))
         by-room b i true h e =
             let x = index-accepted b i in
-            let answer : accepted n ≡ accepted (length b) = ap (λ (o : Outcome). o .answer) e in
+            let answer : accepted n ≡ accepted (length b) = ap (λ (o : Outcome (Answer ℕ)). o .answer) e in
             let so-long : n ≡ length b = cc in
-            let so-left : l ≡ b ++ drop (length b) out = ap (λ (o : Outcome). o .left) e in
-            record { can = x .0; long = so-long ∙ ap length (x .1); fits = omega (arith, leb-true (length b) (length out) h); left = rw (so-left, so-long, ← x .1) }
+            let so-left : l ≡ b ++ drop (length b) out = ap (λ (o : Outcome (Answer ℕ)). o .left) e in
+            record {
+              can = x .0;
+              long = so-long ∙ ap length (x .1);
+              fits = omega (arith, leb-true (length b) (length out) h);
+              left = rw (so-left, so-long, ← x .1);
+            }
 
-        by-index : (x : Answer (List ℕ)) → x ≡ indexOf w ls joined → wrote (accepted n) l ≡ stored x out → Written w ls joined out n l
-        by-index (refused k v) i e = absurd (not-refused (ap (λ (o : Outcome). o .answer) e))
+        by-index : (x : Answer (List ℕ)) → x ≡ indexOf w ls joined → wrote (accepted n) l ≡ into out (mapped sized x) → Written w ls joined out n l
+        by-index (refused k v) i e = absurd (not-refused (ap (λ (o : Outcome (Answer ℕ)). o .answer) e))
         by-index (accepted b) i e = by-room b i (leb (length b) (length out)) refl e
 
     -- what is written is well formed and reads back
@@ -242,4 +256,8 @@ module _ (w : ℕ) (ls joined : List ℕ) where
         let x = write-accepted in
         let rest = drop (length (indexBytes w ls joined)) out in
         rw (x .left, x .long)
-        (record { read = read-written w ls joined (x .can) rest; parts = part-written w ls joined (x .can) rest; formed = formed-written w ls joined (x .can) rest })
+        (record {
+          read = read-written w ls joined (x .can) rest;
+          parts = part-written w ls joined (x .can) rest;
+          formed = formed-written w ls joined (x .can) rest;
+        })

@@ -5,7 +5,7 @@ use mathlib.Core.Bool.{cond}
 use mathlib.Core.List.{List, [], _∷_, _++_}
 use lib.ListN.{length, getD, take, drop}
 use lib.Dec.{leb, ltb, eqb}
-use Rattle.number.specs.Answer.{Answer, accepted, refused, Outcome, alone, needing}
+use Rattle.number.specs.Answer.{Answer, accepted, refused, alone, needing, mapped, Outcome, sized, into}
 use Rattle.number.specs.BigEndian.{bytesOf}
 use Rattle.index_writing.specs.declared.IndexWritten.{IndexWritten}
 use Rattle.index_writing.specs.declared.IndexWritten.the-variants.{Bytes, NoRoom, TooMany, TooLong, Mismatch}
@@ -50,17 +50,9 @@ indexOf w lengths joined =
     (cond (ltb 4294967295 (total lengths + 1)) (refused 23 alone)
     (cond (eqb (total lengths) (length joined)) (accepted (indexBytes w lengths joined)) (refused 24 alone)))
 
--- refused: nothing changes; else the bytes come first and the rest stays, or 13 with the length that is needed
-unfoldable pub stored : Answer (List ℕ) → List ℕ → Outcome
-stored (refused n v) out = record { answer = refused n v; left = out }
-stored (accepted b) out =
-    cond (leb (length b) (length out))
-    (record { answer = accepted (length b); left = b ++ drop (length b) out })
-    (record { answer = refused 13 (needing (length b)); left = out })
-
--- what writing answers and leaves
-unfoldable pub writeIndex : ℕ → List ℕ → List ℕ → List ℕ → Outcome
-writeIndex w lengths joined out = stored (indexOf w lengths joined) out
+-- what writing answers and leaves: the bytes come first and the rest stays, or 13 with the length that is needed
+unfoldable pub writeIndex : ℕ → List ℕ → List ℕ → List ℕ → Outcome (Answer ℕ)
+writeIndex w lengths joined out = into out (mapped sized (indexOf w lengths joined))
 
 -- what the writer's enum says, by document 01's numbers
 abbrev pub indexWritten : IndexWritten → Answer ℕ

@@ -1,12 +1,14 @@
-// Writing an INDEX at the start of lent room, from its elements' lengths and their joined data.
+// Writing an INDEX at the start of lent room, from its elements' lengths and their joined data. It is
+// CFF's, whose count has two bytes: the definitions take the width, this code does not.
 use number::write_be;
 ghost use mathlib.Core.Path.{_≡_};
 ghost use Prim.Native.Nat.{_+_, _≤_};
 ghost use lib.ListN.{length};
+ghost use Rattle.number.specs.Answer.{numberIn, leaving};
 ghost use Rattle.number.specs.BigEndian.{putAt};
 ghost use Rattle.index.specs.Index.{dataStart};
 ghost use Rattle.index_writing.specs.Writing.{total, sizeFor, offsets, indexBytes, writeIndex, indexWritten};
-ghost use Rattle.index_writing.specs.WritingLaws.{laid, reachOf, Writable};
+ghost use Rattle.index_writing.specs.Code.{laid, reachOf, Writable};
 
 // What writing an INDEX did.
 pub enum IndexWritten {
@@ -22,9 +24,24 @@ pub enum IndexWritten {
     Mismatch,
 }
 
+impl IndexWritten {
+    // The number of the answer: 0, or the refusal's.
+    pub fn number(self) -> u32
+        ensures { λ r. ⌜ r ≡ numberIn (indexWritten self) ⌝ }
+    {
+        match self {
+            IndexWritten::Bytes(_) => 0,
+            IndexWritten::NoRoom(_) => 13,
+            IndexWritten::TooMany => 22,
+            IndexWritten::TooLong => 23,
+            IndexWritten::Mismatch => 24,
+        }
+    }
+}
+
 // Writes an INDEX of the elements with these lengths and these joined data at the start of out.
 pub fn write_index(lengths: &[u32], joined: &[u8], out: &mut [u8]) -> IndexWritten
-    ensures { λ r. ⌜ record { answer = indexWritten r; left = now (out .exit) } ≡ writeIndex 2 (now (lengths .entry)) (now (joined .entry)) (now (out .entry)) ⌝ }
+    ensures { λ r. ⌜ leaving (indexWritten r) (now (out .exit)) ≡ writeIndex 2 (now (lengths .entry)) (now (joined .entry)) (now (out .entry)) ⌝ }
 {
     let count = lengths.len();
     if 65535 < count {

@@ -1,4 +1,4 @@
--- `view::first` meets its contract. Assumes nothing.
+-- `index_view::first` meets its contract. Assumes nothing.
 use mathlib.Core.Path.{_≡_, refl, sym, ap}
 use Prim.Native.Nat.{ℕ}
 use native.Mathlib.Nat.{sub-zero}

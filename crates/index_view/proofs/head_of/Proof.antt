@@ -1,4 +1,4 @@
--- `view::head_of` meets its contract. Assumes nothing.
+-- `index_view::head_of` meets its contract. Assumes nothing.
 use mathlib.Core.List.{List, [], _∷_}
 use mathlib.Core.Path.{_≡_, sym, ap, _∙_}
 use Prim.Native.Nat.{ℕ}
@@ -8,7 +8,8 @@ use denote.Enum.Declared.{tagOf}
 use borrow.Author.Needs.{needs}
 use Rattle.index.specs.Index.{extent, indexRead}
 use Rattle.index.specs.IndexLaws.{has, taken-le}
-use Rattle.index_view.specs.ViewLaws.{headOf, head-read, head-refused, own-size, own-unsized}
+use Rattle.index_view.specs.Code.{headOf}
+use Rattle.index_view.specs.ViewLaws.{head-read, head-refused, own-size, own-unsized}
 use Rattle.index.specs.declared.read.IndexRead.the-variants.{Read, Lacking, BadSize}
 use Rattle.index.specs.declared.read.IndexRead.{IndexRead}
 use Rattle.index.proofs.read.IndexRead as read-type
@@ -38,12 +39,12 @@ returns-2 : tie.Need-returns-2
 returns-2 c =
     let e = read (c .before .before) in head-read _ _ e (own-unsized _ _ (taken-le _ _ _ _ e) (omega arith))
 
-shared-slice-read-t7 : tie.Need-shared-slice-read-t7
-shared-slice-read-t7 c =
+shared-slice-read-t8 : tie.Need-shared-slice-read-t8
+shared-slice-read-t8 c =
     let h = taken-le _ _ _ _ (read (c .before .before .before)) in omega arith
 
-cast-t8 : tie.Need-cast-t8
-cast-t8 c = omega (arith, c .shared-slice-known2 .given 2)
+cast-t9 : tie.Need-cast-t9
+cast-t9 c = omega (arith, c .shared-slice-known2 .given 2)
 
 returns-3 : tie.Need-returns-3
 returns-3 c = head-read _ _ (read (c .before .before .before)) (own-size _ _ {t = c .before .before .before .count .given .0 .1 .0} (omega arith))
@@ -56,6 +57,6 @@ head-of-spec =
     enum-known-count
     returns
     returns-2
-    shared-slice-read-t7
-    cast-t8
+    shared-slice-read-t8
+    cast-t9
     returns-3)

@@ -1,4 +1,4 @@
--- `view::part_by_view` meets its contract: a walk of its MIR, by hand. The view that one call returns is held in a local and passed to the next. All that the proof knows of `view_index` and of `view_part` is that each meets its contract; the law `view-is-reader` says that the two together answer as the plain reader does.
+-- `index_view::part_by_view` meets its contract: a walk of its MIR, by hand. The view that one call returns is held in a local and passed to the next. All that the proof knows of `view_index` and of `view_part` is that each meets its contract; the law `view-is-reader` says that the two together answer as the plain reader does.
 -- In a local of a body MIR erases the lifetime of the struct's type, so the value is shown to have the type at `erased`: what the struct owns does not say the lifetime's name.
 -- Assumes nothing.
 use mathlib.Core.Path.{_≡_, refl, ap, _∙_}
@@ -175,5 +175,5 @@ part-by-view-spec 𝓤 H 𝓜 𝓖 𝓡 =
     entered 𝓤 H (tripleOf 𝓤 H (𝓖 .A) part-by-view.signature (part-by-view.spec 𝓤 H (𝓖 .A) (𝓜 .mem) (𝓡 .run)))
     (tables 𝓤 H 𝓜 𝓡 code.env .C) (tables 𝓤 H 𝓜 𝓡 code.env .Λ) #part-by-view code.function (code.unfolded 𝓤 H 𝓜 𝓡)
     (part-by-view-meets 𝓤 H (𝓖 .A) (givenOf 𝓤 H 𝓜 𝓖) (𝓜 .mem) (𝓡 .run) (tablesOf 𝓤 H 𝓜 (tables 𝓤 H 𝓜 𝓡 code.env))
-    (cited 𝓤 H (ViewIndex 𝓤 H (𝓖 .A) (𝓜 .mem) (𝓡 .run)) 𝓜 𝓡 code.env #view-index view-index-def.routine code.calls-view·view-index (view-index-thm.met 𝓤 H 𝓜 𝓖 𝓡))
-    (cited 𝓤 H (ViewPart 𝓤 H (𝓖 .A) (𝓜 .mem) (𝓡 .run)) 𝓜 𝓡 code.env #view-part view-part-def.routine code.calls-view·view-part (view-part-thm.met 𝓤 H 𝓜 𝓖 𝓡)))
+    (cited 𝓤 H (ViewIndex 𝓤 H (𝓖 .A) (𝓜 .mem) (𝓡 .run)) 𝓜 𝓡 code.env #view-index view-index-def.routine code.calls-index-view·view-index (view-index-thm.met 𝓤 H 𝓜 𝓖 𝓡))
+    (cited 𝓤 H (ViewPart 𝓤 H (𝓖 .A) (𝓜 .mem) (𝓡 .run)) 𝓜 𝓡 code.env #view-part view-part-def.routine code.calls-index-view·view-part (view-part-thm.met 𝓤 H 𝓜 𝓖 𝓡)))

@@ -1,4 +1,4 @@
--- `view::view_index` meets its contract: a walk of its MIR, by hand. The head that one call returns is held in a local, its first number is passed to the next call beside the slice, and the struct is made of what that returns and the head's other numbers. All that the proof knows of `head_of` and of `first` is that each meets its contract.
+-- `index_view::view_index` meets its contract: a walk of its MIR, by hand. The head that one call returns is held in a local, its first number is passed to the next call beside the slice, and the struct is made of what that returns and the head's other numbers. All that the proof knows of `head_of` and of `first` is that each meets its contract.
 -- A `&[u8]` is Copy, so what it owns is had again for each call, and once for the exit. What a call returns is told by its type's laws: so the machine values in the two locals are rewritten to those of the head and of the slice.
 -- Assumes nothing.
 use mathlib.Core.Path.{_≡_, refl, ap}
@@ -39,7 +39,8 @@ use denote.Triple.Table.{entered, cited}
 use denote.Triple.Walked.{says, Stays, stay-none-slice, walkOf, goes-none-slice, Walks, ends-at, walked, walk-meets}
 use denote.Exit.{yes}
 use denote.Triple.Clauses.{ensured, lasts}
-use Rattle.index_view.specs.ViewLaws.{headOf, view-made}
+use Rattle.index_view.specs.Code.{headOf}
+use Rattle.index_view.specs.ViewLaws.{view-made}
 use Rattle.index_view.specs.declared.View.{View}
 use Rattle.index_view.specs.declared.Head.{Head}
 use Rattle.index_view.proofs.View as T
@@ -189,5 +190,5 @@ view-index-spec 𝓤 H 𝓜 𝓖 𝓡 =
     entered 𝓤 H (tripleOf 𝓤 H (𝓖 .A) view-index.signature (view-index.spec 𝓤 H (𝓖 .A) (𝓜 .mem) (𝓡 .run)))
     (tables 𝓤 H 𝓜 𝓡 code.env .C) (tables 𝓤 H 𝓜 𝓡 code.env .Λ) #view-index code.function (code.unfolded 𝓤 H 𝓜 𝓡)
     (view-index-meets 𝓤 H (𝓖 .A) (givenOf 𝓤 H 𝓜 𝓖) (𝓜 .mem) (𝓡 .run) (tablesOf 𝓤 H 𝓜 (tables 𝓤 H 𝓜 𝓡 code.env))
-    (cited 𝓤 H (HeadOf 𝓤 H (𝓖 .A) (𝓜 .mem) (𝓡 .run)) 𝓜 𝓡 code.env #head-of head-of-def.routine code.calls-view·head-of (head-of-thm.met 𝓤 H 𝓜 𝓖 𝓡))
-    (cited 𝓤 H (First 𝓤 H (𝓖 .A) (𝓜 .mem) (𝓡 .run)) 𝓜 𝓡 code.env #first first-def.routine code.calls-view·first (first-thm.met 𝓤 H 𝓜 𝓖 𝓡)))
+    (cited 𝓤 H (HeadOf 𝓤 H (𝓖 .A) (𝓜 .mem) (𝓡 .run)) 𝓜 𝓡 code.env #head-of head-of-def.routine code.calls-index-view·head-of (head-of-thm.met 𝓤 H 𝓜 𝓖 𝓡))
+    (cited 𝓤 H (First 𝓤 H (𝓖 .A) (𝓜 .mem) (𝓡 .run)) 𝓜 𝓡 code.env #first first-def.routine code.calls-index-view·first (first-thm.met 𝓤 H 𝓜 𝓖 𝓡)))

@@ -1,4 +1,4 @@
--- `view::view_part` meets its contract: a walk of its MIR, by hand. The struct is taken apart, and `part_in` is called on what it holds. All that the proof knows of `part_in` is that it meets its contract.
+-- `index_view::view_part` meets its contract: a walk of its MIR, by hand. The struct is taken apart, and `part_known` is called on what it holds. All that the proof knows of `part_known` is that it meets its contract.
 -- The struct is Copy: what it owns is had twice, one copy is kept whole for the exit, and of the other what bytes owns goes to the callee, beside the lifetime's token, which comes back.
 -- Assumes nothing.
 use mathlib.Core.Path.{_≡_, refl}
@@ -47,10 +47,10 @@ use Rattle.index_view.specs.View.{seen, viewPart}
 use Rattle.index_view.specs.declared.View.{View}
 use Rattle.index_view.proofs.View as T
 use Rattle.index_view.proofs.View.Laws as T′
-use Rattle.index.proofs.part_in as part-in
-use Rattle.index.proofs.part_in.Symbol as part-in-def
-use Rattle.index.proofs.part_in.Symbol.{name as #part-in}
-use Rattle.index.proofs.part_in.Met as part-in-thm
+use Rattle.index_view.proofs.part_known as part-known
+use Rattle.index_view.proofs.part_known.Symbol as part-known-def
+use Rattle.index_view.proofs.part_known.Symbol.{name as #part-known}
+use Rattle.index_view.proofs.part_known.Met as part-known-thm
 use Rattle.index_view.proofs.view_part.Key.{name as #view-part}
 use Rattle.index_view.proofs.view_part as view-part
 use Rattle.index_view.proofs.view_part.Statement as stated
@@ -65,8 +65,8 @@ stayed = (stay-none B yes, (stay-none (λ _. u32) yes, tt))
 
 module _ {M : Type 1} (𝓤 : URA M) (H : Heap 𝓤) (A : Atoms 𝓤) (mem : Memory → SProp 𝓤) (run : Routine → Fun 𝓤) where
   -- the contract that the proof cites
-  abbrev PartIn : Contract 𝓤
-  PartIn = tripleOf 𝓤 H A part-in.signature (part-in.spec 𝓤 H A mem run)
+  abbrev PartKnown : Contract 𝓤
+  PartKnown = tripleOf 𝓤 H A part-known.signature (part-known.spec 𝓤 H A mem run)
 
 module _ {M : Type 1} (𝓤 : URA M) (H : Heap 𝓤) (A : Atoms 𝓤) (W : Given 𝓤 H A) (mem : Memory → SProp 𝓤) (run : Routine → Fun 𝓤) (κ : Lft) (q : Share) (d : View) (n : ℕ) (ok : n < 2 ^ 32) where
   abbrev mach : Val
@@ -103,20 +103,20 @@ module _ {M : Type 1} (𝓤 : URA M) (H : Heap 𝓤) (A : Atoms 𝓤) (W : Given
   vd = (d .bytes, (d .count, (d .size, tt)))
 
   -- what the callee is passed
-  abbrev args : Args part-in.signature (κ, tt)
+  abbrev args : Args part-known.signature (κ, tt)
   args = (d .bytes, (d .count, (d .size, (n, tt))))
 
-  abbrev passed : Vals part-in.signature (κ, tt)
+  abbrev passed : Vals part-known.signature (κ, tt)
   passed = (v ∷ [], (vint w32 (d .count) ∷ [], (vint w64 (d .size) ∷ [], (vint w32 n ∷ [], tt))))
 
-  abbrev to : PartIn 𝓤 H A mem run .Ghost
+  abbrev to : PartKnown 𝓤 H A mem run .Ghost
   to = (((κ, tt), (q, tt), tt, args, passed), tt)
 
-  asked : ent 𝓤 (onEntry 𝓤 H A part-in.signature (κ, tt) (q, tt) args passed) (PartIn 𝓤 H A mem run .pre to)
+  asked : ent 𝓤 (onEntry 𝓤 H A part-known.signature (κ, tt) (q, tt) args passed) (PartKnown 𝓤 H A mem run .pre to)
   asked = qed W ((‵ (flft κ q) ⊛ ‵ ftrue) ∷ ‵ (owns (S ∷ u32 ∷ usize ∷ u32 ∷ []) args passed) ∷ []) ∵ join ! $ frame ! $ done !
 
   -- what the struct owns gives what the callee asks, and is kept
-  apart : d .count < 2 ^ 32 → d .size < 2 ^ 64 → ent 𝓤 (onEntry 𝓤 H A view-part.signature (κ, tt) (q, tt) (d, (n, tt)) at) (sep 𝓤 (PartIn 𝓤 H A mem run .pre to) (sem 𝓤 H A Own))
+  apart : d .count < 2 ^ 32 → d .size < 2 ^ 64 → ent 𝓤 (onEntry 𝓤 H A view-part.signature (κ, tt) (q, tt) (d, (n, tt)) at) (sep 𝓤 (PartKnown 𝓤 H A mem run .pre to) (sem 𝓤 H A Own))
   apart count-fits size-fits =
       qed W ((‵ (flft κ q) ⊛ ‵ ftrue) ∷ ‵ (owns (B (κ, tt) ∷ u32 ∷ []) (d, (n, tt)) at) ∷ []) ∵
       move ! (1 ∷ []) $ fsplit ! $ move ! (1 ∷ []) $ drop ! $ use1 W (‵ Own ⊛ ‵ Own) (LL.copy D (T′.the-copy (namedLft 1 0 tt (κ, tt))) 𝓤 H A W .twice d (mach ∷ [])) $ split ! $
@@ -124,11 +124,11 @@ module _ {M : Type 1} (𝓤 : URA M) (H : Heap 𝓤) (A : Atoms 𝓤) (W : Given
       -- [what bytes owns; what the numbers own; what the struct owns; the token]
       move ! (1 ∷ []) $ drop ! $ nothing ! $ owned ! u32 (Is u32) (uint-makes 𝓤 H A W w32) n _ (refl, ok) $ fjoin ! $ owned ! usize (Is usize) (uint-makes 𝓤 H A W w64) (d .size) _ (refl, size-fits) $ fjoin ! $
       owned ! u32 (Is u32) (uint-makes 𝓤 H A W w32) (d .count) _ (refl, count-fits) $ fjoin ! $ move ! (1 ∷ 0 ∷ []) $ fjoin ! $
-      move ! (2 ∷ 0 ∷ []) $ use2 W (raw (PartIn 𝓤 H A mem run .pre to)) asked $ frame ! $ done !)
+      move ! (2 ∷ 0 ∷ []) $ use2 W (raw (PartKnown 𝓤 H A mem run .pre to)) asked $ frame ! $ done !)
 
   -- of the callee's `ensured`, the clause alone: it has no `&mut`, so what is said of last values is dropped
-  said : (r : RefT (List ℕ)) → ent 𝓤 (ensured 𝓤 H A part-in.ended (part-in.clauses 𝓤 H A mem run) (κ, tt) args tt r) (fact 𝓤 (Found r))
-  said r = exE 𝓤 _ (λ ws. snd∗ 𝓤 (sem 𝓤 H A (lasts part-in.ended (κ, tt) args ws)) (fact 𝓤 (Found r)))
+  said : (r : RefT (List ℕ)) → ent 𝓤 (ensured 𝓤 H A part-known.ended (part-known.clauses 𝓤 H A mem run) (κ, tt) args tt r) (fact 𝓤 (Found r))
+  said r = exE 𝓤 _ (λ ws. snd∗ 𝓤 (sem 𝓤 H A (lasts part-known.ended (κ, tt) args ws)) (fact 𝓤 (Found r)))
 
   exits : (r : RefT (List ℕ)) (u : Val) → Found r → ent 𝓤 (⋆ 𝓤 H A (‵ (S .own r (u ∷ [])) ∷ (‵ (flft κ q) ⊛ ‵ ftrue) ∷ ‵ Own ∷ [])) (Post u)
   exits r u e =
@@ -136,7 +136,7 @@ module _ {M : Type 1} (𝓤 : URA M) (H : Heap 𝓤) (A : Atoms 𝓤) (W : Given
       suffices ! _ (ends-at 𝓤 H A view-part.ended stayed (view-part.clauses 𝓤 H A mem run) W (((κ, tt), (q, tt), tt, (d, (n, tt)), at), tt) u r (tt, (tt, tt)) (tt, (tt, tt))) $ says ! e $
       move ! (1 ∷ []) $ frame ! $ nothing ! $ owned ! u32 (Is u32) (uint-makes 𝓤 H A W w32) n _ (refl, ok) $ fjoin ! $ move ! (2 ∷ 0 ∷ []) $ fjoin ! $ frame ! $ done !
 
-  module _ (C : Calls 𝓤 H) (Λ : Loops 𝓤 H) (fm : FmC 𝓤 H (W .laws) C) (known : Triple 𝓤 (C #part-in) (PartIn 𝓤 H A mem run)) where
+  module _ (C : Calls 𝓤 H) (Λ : Loops 𝓤 H) (fm : FmC 𝓤 H (W .laws) C) (known : Triple 𝓤 (C #part-known) (PartKnown 𝓤 H A mem run)) where
     walk : Holds (hasTy (T′.mir (named 0)) mach) × WT mach → ent 𝓤 (onEntry 𝓤 H A view-part.signature (κ, tt) (q, tt) (d, (n, tt)) at) (WpFn 𝓤 H C Λ code.function (mach ∷ vint w32 n ∷ []) Post)
     walk wt =
         qed W (raw (onEntry 𝓤 H A view-part.signature (κ, tt) (q, tt) (d, (n, tt)) at) ∷ []) ∵ enter ! C Λ code.function (mach ∷ vint w32 n ∷ []) _ $
@@ -144,10 +144,10 @@ module _ {M : Type 1} (𝓤 : URA M) (H : Heap 𝓤) (A : Atoms 𝓤) (W : Given
         assigns ! (of-opd ! (load ! (from ! (fld ! refl (stop !))) (look-in ! 8 (sub ! 0 refl (whole !))))) (from ! (stop !)) (init ! 4 refl (tt, wt .1 .0)) $
         assigns ! (of-opd ! (load ! (from ! (fld ! refl (stop !))) (look-in ! 8 (sub ! 1 refl (whole !))))) (from ! (stop !)) (init ! 2 refl (tt, wt .1 .1 .0)) $
         assigns ! (of-opd ! (load ! (from ! (fld ! refl (stop !))) (look-in ! 8 (sub ! 2 refl (whole !))))) (from ! (stop !)) (init ! 0 refl (tt, wt .1 .1 .1 .0)) $
-        move ! (12 ∷ []) $ use1 W (raw (PartIn 𝓤 H A mem run .pre to) ⊛ ‵ Own) (apart (wt .1 .1 .0 .fits) (wt .1 .1 .1 .0 .fits)) $ split ! $
+        move ! (12 ∷ []) $ use1 W (raw (PartKnown 𝓤 H A mem run .pre to) ⊛ ‵ Own) (apart (wt .1 .1 .0 .fits) (wt .1 .1 .1 .0 .fits)) $ split ! $
         -- [what the callee asks; what the struct owns; _5; …; _4; …; _3; …; _2; …; _1; …; room for _0; …]
-        calls-at ! fm (PartIn 𝓤 H A mem run) known to (and-then ! (load ! (from ! (stop !)) (look ! 6 refl)) (and-then ! (load ! (from ! (stop !)) (look ! 4 refl)) (and-then ! (load ! (from ! (stop !)) (look ! 2 refl)) (and-then ! (load ! (from ! (stop !)) (look ! 8 refl)) (no-more !))))) (λ u.
-        use1 W (later (some (λ (r : RefT (List ℕ)). ((‵ (flft κ q) ⊛ ‵ ftrue) ⊛ ‵ (S .own r (u ∷ []))) ⊛ raw (ensured 𝓤 H A part-in.ended (part-in.clauses 𝓤 H A mem run) (κ, tt) args tt r)))) (id⊢ 𝓤 _) $ await ! tt $ pick ! (λ r.
+        calls-at ! fm (PartKnown 𝓤 H A mem run) known to (and-then ! (load ! (from ! (stop !)) (look ! 6 refl)) (and-then ! (load ! (from ! (stop !)) (look ! 4 refl)) (and-then ! (load ! (from ! (stop !)) (look ! 2 refl)) (and-then ! (load ! (from ! (stop !)) (look ! 8 refl)) (no-more !))))) (λ u.
+        use1 W (later (some (λ (r : RefT (List ℕ)). ((‵ (flft κ q) ⊛ ‵ ftrue) ⊛ ‵ (S .own r (u ∷ []))) ⊛ raw (ensured 𝓤 H A part-known.ended (part-known.clauses 𝓤 H A mem run) (κ, tt) args tt r)))) (id⊢ 𝓤 _) $ await ! tt $ pick ! (λ r.
         split ! $ move ! (1 ∷ []) $ use1 W (raw (fact 𝓤 (Found r))) (said r) $ heard ! (Found r) (λ e. split ! $ move ! (1 ∷ []) $
         -- [the result; the token; what the struct owns; _5; …; _4; …; _3; …; _2; …; _1; …; room for _0; …]
         peeks ! S (Is S) (shows 𝓤 H A S) r (u ∷ []) (λ is.
@@ -156,13 +156,13 @@ module _ {M : Type 1} (𝓤 : URA M) (H : Heap 𝓤) (A : Atoms 𝓤) (W : Given
         move ! (13 ∷ 14 ∷ []) $ free1 ! $ move ! (11 ∷ 12 ∷ []) $ free1 ! $ move ! (9 ∷ 10 ∷ []) $ free1 ! $ move ! (7 ∷ 8 ∷ []) $ free1 ! $ move ! (5 ∷ 6 ∷ []) $ free1 ! $ move ! (3 ∷ 4 ∷ []) $ free1 ! $ free0 ! $ by ! (exits r u e)))))))))))
 
 module _ {M : Type 1} (𝓤 : URA M) (H : Heap 𝓤) (A : Atoms 𝓤) (W : Given 𝓤 H A) (mem : Memory → SProp 𝓤) (run : Routine → Fun 𝓤) where
-  view-part-walks : (C : Calls 𝓤 H) (Λ : Loops 𝓤 H) → FmC 𝓤 H (W .laws) C → Triple 𝓤 (C #part-in) (PartIn 𝓤 H A mem run)
+  view-part-walks : (C : Calls 𝓤 H) (Λ : Loops 𝓤 H) → FmC 𝓤 H (W .laws) C → Triple 𝓤 (C #part-known) (PartKnown 𝓤 H A mem run)
       → Walks 𝓤 H A view-part.ended stayed (WpFn 𝓤 H C Λ code.function) (view-part.clauses 𝓤 H A mem run)
   view-part-walks C Λ fm known = walked 𝓤 H A view-part.ended stayed (view-part.clauses 𝓤 H A mem run) (WpFn 𝓤 H C Λ code.function) (λ κs. (LL.vals (T.the-type (namedLft 1 0 tt κs)) (T′.the-laws (namedLft 1 0 tt κs)), (uint-vals w32, tt))) (λ κs. (LL.tells (T.the-type (namedLft 1 0 tt κs)) (T′.the-laws (namedLft 1 0 tt κs)), (uint-tells w32, tt)))
       (λ κs qs bounds a g are. via 𝓤 _ (fst∗ 𝓤 _ (emp 𝓤)) (walk 𝓤 H A W mem run (κs .0) (qs .0) (a .0) (a .1 .0) (are .1 .0 .1) C Λ fm known (LL.lawful (T.the-type (namedLft 1 0 tt κs)) (T′.the-laws (namedLft 1 0 tt κs)) 𝓤 H A W .typed (a .0) _ (are .0) .0)))
 
 view-part-meets : {M : Type 1} (𝓤 : URA M) (H : Heap 𝓤) (A : Atoms 𝓤) (W : Given 𝓤 H A) (mem : Memory → SProp 𝓤) (run : Routine → Fun 𝓤) (𝓣 : Tables 𝓤 H)
-    → Triple 𝓤 (𝓣 .C #part-in) (PartIn 𝓤 H A mem run)
+    → Triple 𝓤 (𝓣 .C #part-known) (PartKnown 𝓤 H A mem run)
     → Meets 𝓤 H A view-part.signature (WpFn 𝓤 H (𝓣 .C) (𝓣 .Λ) code.function) (view-part.spec 𝓤 H A mem run)
 view-part-meets 𝓤 H A W mem run 𝓣 known = walk-meets 𝓤 H A view-part.ended stayed W (goes-none 𝓤 H A W 1 B yes (λ κs x f. refl), (goes-none 𝓤 H A W 1 (λ _. u32) yes (λ κs x f. refl), tt)) (view-part.clauses 𝓤 H A mem run) (WpFn 𝓤 H (𝓣 .C) (𝓣 .Λ) code.function) (WpFn-mono 𝓤 H (W .laws) 𝓣 code.function)
     (view-part-walks 𝓤 H A W mem run (𝓣 .C) (𝓣 .Λ) (fmOf 𝓤 H (W .laws) 𝓣) known)
@@ -173,4 +173,4 @@ view-part-spec 𝓤 H 𝓜 𝓖 𝓡 =
     entered 𝓤 H (tripleOf 𝓤 H (𝓖 .A) view-part.signature (view-part.spec 𝓤 H (𝓖 .A) (𝓜 .mem) (𝓡 .run)))
     (tables 𝓤 H 𝓜 𝓡 code.env .C) (tables 𝓤 H 𝓜 𝓡 code.env .Λ) #view-part code.function (code.unfolded 𝓤 H 𝓜 𝓡)
     (view-part-meets 𝓤 H (𝓖 .A) (givenOf 𝓤 H 𝓜 𝓖) (𝓜 .mem) (𝓡 .run) (tablesOf 𝓤 H 𝓜 (tables 𝓤 H 𝓜 𝓡 code.env))
-    (cited 𝓤 H (PartIn 𝓤 H (𝓖 .A) (𝓜 .mem) (𝓡 .run)) 𝓜 𝓡 code.env #part-in part-in-def.routine code.calls-index·part-in (part-in-thm.met 𝓤 H 𝓜 𝓖 𝓡)))
+    (cited 𝓤 H (PartKnown 𝓤 H (𝓖 .A) (𝓜 .mem) (𝓡 .run)) 𝓜 𝓡 code.env #part-known part-known-def.routine code.calls-index-view·part-known (part-known-thm.met 𝓤 H 𝓜 𝓖 𝓡)))

@@ -1,3 +1,4 @@
+-- `index_writing::needed_for` meets its contract. Assumes nothing.
 use Prim.Native.Nat.{_+_, _*_, _≤_}
 use native.Mathlib.Omega.{arith}
 use Rattle.index.specs.OffsetLaws.{product-small}

@@ -1,10 +1,12 @@
+-- `index_writing::put_data` meets its contract. Assumes nothing.
 use native.Mathlib.Nat.{add-zero}
 use mathlib.Core.Path.{_≡_, refl, sym, _∙_}
 use Prim.Native.Nat.{_+_, _-_, _≤_}
 use native.Mathlib.Omega.{arith}
 use lib.ListN.{length, drop, length-set}
 use borrow.Author.Needs.{needs}
-use Rattle.index_writing.specs.WritingLaws.{laid, laid-step, laid-end}
+use Rattle.index_writing.specs.Code.{laid}
+use Rattle.index_writing.specs.WritingLaws.{laid-step, laid-end}
 use Rattle.index_writing.proofs.put_data.Statement.{statement}
 use Rattle.index_writing.proofs.put_data.Tie as tie
 

@@ -1,3 +1,4 @@
+-- `index_writing::put_index` meets its contract. Assumes nothing.
 use mathlib.Core.Path.{_≡_, sym, subst, _∙_}
 use Prim.Native.Nat.{ℕ, _+_, _≤_}
 use native.Mathlib.Omega.{arith}
@@ -35,13 +36,16 @@ cast-put-offset c = search needs
 
 put-offset-requires : tie.Need-put-offset-requires
 put-offset-requires c κs =
-    let a = c .before .before .before .before .args in (omega arith, omega (arith, reach-count 2 (length (a .lengths .now)) (a .size) (length (a .joined .now))))
+    let a = c .before .before .before .before .args in
+    (omega arith, omega (arith, reach-count 2 (length (a .lengths .now)) (a .size) (length (a .joined .now))))
 
 same-length : tie.Need-same-length
 same-length c = search needs
 
 returns : tie.Need-returns
-returns c = c .before .before .before .put-offset .ensures ∙ none-laid _ _ _ _ _ (c .before .before .before .before .before .before .before .before .pre .1 .0) (omega arith)
+returns c =
+    let put = c .before .before .before in
+    put .put-offset .ensures ∙ none-laid _ _ _ _ _ (put .before .before .before .before .before .pre .1 .0) (omega arith)
 
 cast-out : tie.Need-cast-out
 cast-out c = omega (arith, sized c)
@@ -73,7 +77,9 @@ returns-2 : tie.Need-returns-2
 returns-2 c =
     let e = c .before .before .before .before .before .before .before .before in
     let r = room e in
-    some-laid _ _ _ _ _ (start e .pre .1 .0) (e .if1 .left) (omega arith) _ _ _ (e .before .before .before .put-offset .ensures) (c .before .before .before .before .before .before .put-offsets .ensures) (c .before .before .put-data .ensures)
+    let count = e .before .before .before .put-offset .ensures in
+    let offsets = c .before .before .before .before .before .before .put-offsets .ensures in
+    some-laid _ _ _ _ _ (start e .pre .1 .0) (e .if1 .left) (omega arith) _ _ _ count offsets (c .before .before .put-data .ensures)
 
 pub put-index-spec : {M : Type 1} → statement M
 put-index-spec =

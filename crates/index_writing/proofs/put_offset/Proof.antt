@@ -1,6 +1,8 @@
+-- `index_writing::put_offset` meets its contract. Assumes nothing.
 use mathlib.Core.Path.{refl, sym, ap, _∙_}
 use native.Mathlib.Omega.{arith}
-use Rattle.number.specs.BigEndian.{Put}
+use Rattle.number.specs.Answer.{Outcome}
+use Rattle.number.specs.declared.big_endian.Stored.{Stored}
 use Rattle.number.specs.BigEndianLaws.{stored-here}
 use borrow.Author.Needs.{needs}
 use Rattle.index_writing.proofs.put_offset.Statement.{statement}
@@ -13,7 +15,7 @@ same-length : tie.Need-same-length
 same-length c = search needs
 
 returns : tie.Need-returns
-returns c = ap (λ (p : Put). p .left) (c .before .before .write-be .ensures ∙ sym (stored-here _ _ _ _ (omega arith) (omega arith) _ refl))
+returns c = ap (λ (p : Outcome Stored). p .left) (c .before .before .write-be .ensures ∙ sym (stored-here _ _ _ _ (omega arith) (omega arith) _ refl))
 
 pub put-offset-spec : {M : Type 1} → statement M
 put-offset-spec = tie.close (tie.spec write-be-requires same-length returns)

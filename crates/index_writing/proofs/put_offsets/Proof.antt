@@ -1,10 +1,12 @@
+-- `index_writing::put_offsets` meets its contract. Assumes nothing.
 use mathlib.Core.Path.{_≡_, refl, ap, _∙_}
 use Prim.Native.Nat.{_+_, _-_, _*_, _≤_}
 use native.Mathlib.Omega.{arith}
 use lib.ListN.{length, drop}
 use borrow.Author.Needs.{needs}
 use Rattle.index_writing.specs.Writing.{total, offsets}
-use Rattle.index_writing.specs.WritingLaws.{laid, total-drop, offset-next, offset-last, offset-past, offset-room}
+use Rattle.index_writing.specs.Code.{laid}
+use Rattle.index_writing.specs.WritingLaws.{total-drop, offset-next, offset-last, offset-past, offset-room}
 use Rattle.index_writing.proofs.put_offsets.Statement.{statement}
 use Rattle.index_writing.proofs.put_offsets.Tie as tie
 
@@ -52,12 +54,13 @@ loop-again c =
     let a = c .before .before .before .before .before .before .before .before .before .args in
     let room = inside (c .before .before .before .before .before .before) in
     let put = c .before .before .before .put-offset in
-    let next = total-drop (a .lengths .now) (l .i) (omega arith) in (
+    let next = total-drop (a .lengths .now) (l .i) (omega arith) in
+    let one-more = offset-next (a .size) (l .offset) (a .lengths .now) (l .i) (l .at) (l .out) (omega arith) (omega arith) in (
       omega arith,
       put .kept .0 ∙ l .inv .1,
       offset-past 2 (l .i) (a .size) (l .at) (l .inv .2),
       omega arith,
-      ap (laid (l .at + a .size) _) (put .ensures) ∙ offset-next (a .size) (l .offset) (a .lengths .now) (l .i) (l .at) (l .out) (omega arith) (omega arith) ∙ l .inv .4,
+      ap (laid (l .at + a .size) _) (put .ensures) ∙ one-more ∙ l .inv .4,
     )
 
 put-offset-requires-2 : tie.Need-put-offset-requires-2 Inv-loop μ-loop

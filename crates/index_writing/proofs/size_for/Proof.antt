@@ -1,3 +1,4 @@
+-- `index_writing::size_for` meets its contract. Assumes nothing.
 use native.Mathlib.Omega.{arith}
 use Rattle.index_writing.specs.WritingLaws.{size-one, size-two, size-three, size-four}
 use Rattle.index_writing.proofs.size_for.Statement.{statement}

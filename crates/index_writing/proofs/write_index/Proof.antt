@@ -1,9 +1,11 @@
+-- `index_writing::write_index` meets its contract. Assumes nothing.
 use mathlib.Core.Path.{_≡_, sym, ap, _∙_}
 use Prim.Native.Nat.{ℕ, _+_}
 use native.Mathlib.Omega.{arith}
 use lib.ListN.{length}
 use Rattle.index_writing.specs.Writing.{total, sizeFor, indexBytes}
-use Rattle.index_writing.specs.WritingLaws.{Writable, reachOf, size-holds, length-index, too-many, too-long, mismatch, no-room, written}
+use Rattle.index_writing.specs.Code.{Writable, reachOf}
+use Rattle.index_writing.specs.WritingLaws.{size-holds, length-index, too-many, too-long, mismatch, no-room, written}
 use borrow.Author.Needs.{needs}
 use Rattle.index_writing.proofs.write_index.Statement.{statement}
 use Rattle.index_writing.proofs.write_index.Tie as tie
@@ -18,7 +20,7 @@ can c = record { few = omega arith; short = omega arith; adds = omega arith }
 sized : (c : tie.After-size-for) → c .size-for .result ≡ sizeFor (total (start (c .before) .args .lengths .now) + 1)
 sized c = c .size-for .ensures ∙ ap (λ (n : ℕ). sizeFor (n + 1)) (c .before .before .before .sum-of .ensures)
 
-whole : (c : tie.After-needed-for) → c .needed-for .result ≡ length (indexBytes 2 (start (c .before .before) .args .lengths .now) (start (c .before .before) .args .joined .now))
+whole : (c : tie.After-needed-for) → let a = start (c .before .before) .args in c .needed-for .result ≡ length (indexBytes 2 (a .lengths .now) (a .joined .now))
 whole c =
     let ls = start (c .before .before) .args .lengths .now in
     let joined = start (c .before .before) .args .joined .now in
@@ -58,7 +60,9 @@ same-length : tie.Need-same-length
 same-length c = search needs
 
 returns-5 : tie.Need-returns-5
-returns-5 c = written _ _ _ _ (can (c .before .before .before .before .before .before .before)) _ (whole (c .before .before .before .before .before)) (omega arith) _ (c .before .before .put-index .ensures)
+returns-5 c =
+    let needed = c .before .before .before .before .before in
+    written _ _ _ _ (can (needed .before .before)) _ (whole needed) (omega arith) _ (c .before .before .put-index .ensures)
 
 pub write-index-spec : {M : Type 1} → statement M
 write-index-spec =

@@ -1,9 +1,9 @@
 -- `index::entry::entry_between` meets its contract. Assumes nothing.
 use Prim.Native.Nat.{_+_}
 use native.Mathlib.Omega.{arith}
-use borrow.Author.Needs.{needs}
 use Rattle.index.specs.OffsetLaws.{start-mono}
 use Rattle.index.specs.IndexLaws.{by-zero, by-descent, by-passing, by-order}
+use borrow.Author.Needs.{needs}
 use Rattle.index.proofs.entry.entry_between.Statement.{statement}
 use Rattle.index.proofs.entry.entry_between.Tie as tie
 
@@ -13,16 +13,20 @@ mask-of-requires c κs = search needs
 add-start : tie.Need-add-start
 add-start c = search needs
 
+add-start-2 : tie.Need-add-start-2
+add-start-2 c = search needs
+
 mul-start : tie.Need-mul-start
 mul-start c = search needs
 
-add-start-2 : tie.Need-add-start-2
-add-start-2 c = search needs
+add-start-3 : tie.Need-add-start-3
+add-start-3 c = search needs
 
 offset-at-requires : tie.Need-offset-at-requires
 offset-at-requires c κs =
     let a = c .before .before .args in
-    (c .mask-of .ensures, omega (arith, start-mono 2 {i = a .number} {n = a .count} (a .size) (omega arith)))
+    let fewer = start-mono (a .width) {i = a .number} {n = a .count} (a .size) (omega arith) in
+    (c .mask-of .ensures, (omega arith, omega arith))
 
 add-offset-at : tie.Need-add-offset-at
 add-offset-at c = search needs
@@ -30,7 +34,8 @@ add-offset-at c = search needs
 offset-at-requires-2 : tie.Need-offset-at-requires-2
 offset-at-requires-2 c κs =
     let a = c .before .before .before .args in
-    (c .before .mask-of .ensures, omega (arith, start-mono 2 {i = a .number + 1} {n = a .count} (a .size) (omega arith)))
+    let fewer = start-mono (a .width) {i = a .number + 1} {n = a .count} (a .size) (omega arith) in
+    (c .before .mask-of .ensures, (omega arith, omega arith))
 
 returns : tie.Need-returns
 returns c = by-zero _ _ _ _ _ (omega arith)
@@ -47,11 +52,11 @@ add-if3 c = search needs
 returns-3 : tie.Need-returns-3
 returns-3 c = by-passing _ _ _ _ _ (omega arith)
 
-sub-t11 : tie.Need-sub-t11
-sub-t11 c = search needs
+sub-t14 : tie.Need-sub-t14
+sub-t14 c = search needs
 
-add-t13 : tie.Need-add-t13
-add-t13 c = search needs
+add-t12 : tie.Need-add-t12
+add-t12 c = search needs
 
 returns-4 : tie.Need-returns-4
 returns-4 c = by-order _ _ _ _ _ (omega arith) (omega arith) (omega arith) (omega arith) (omega arith) (omega arith)
@@ -62,8 +67,9 @@ entry-between-spec =
     (tie.spec
     mask-of-requires
     add-start
-    mul-start
     add-start-2
+    mul-start
+    add-start-3
     offset-at-requires
     add-offset-at
     offset-at-requires-2
@@ -72,6 +78,6 @@ entry-between-spec =
     sub-if3
     add-if3
     returns-3
-    sub-t11
-    add-t13
+    sub-t14
+    add-t12
     returns-4)

@@ -1,5 +1,4 @@
 -- `index::entry::part_of` meets its contract. Assumes nothing.
-use Rattle.number.specs.Answer.{alone}
 use mathlib.Core.List.{List, [], _∷_}
 use mathlib.Core.Path.{_≡_, sym, ap, _∙_, subst}
 use Prim.Native.Nat.{ℕ, _+_, _≤_}
@@ -9,8 +8,10 @@ use lib.ListN.{length, take, drop}
 use types.Run.{OneOf, miss}
 use denote.Enum.Declared.{tagOf}
 use borrow.Author.Needs.{needs}
+use Rattle.number.specs.Answer.{alone}
 use Rattle.index.specs.Index.{partBy, entryRead}
-use Rattle.index.specs.IndexLaws.{Inside, part-lies, part-none}
+use Rattle.index.specs.Code.{Inside}
+use Rattle.index.specs.IndexLaws.{part-lies, part-none}
 use Rattle.index.specs.declared.entry.EntryRead.the-variants.{Entry, Lacking, BadSize, Absent}
 use Rattle.index.specs.declared.entry.EntryRead.{EntryRead}
 use Rattle.index.proofs.entry.EntryRead as entry-type
@@ -18,7 +19,8 @@ use Rattle.index.proofs.entry.part_of.Statement.{statement}
 use Rattle.index.proofs.entry.part_of.Tie as tie
 
 -- any other answer, by its tag
-other : (at : ℕ × ℕ) (s : List ℕ) (r : EntryRead) → OneOf (1 ∷ 2 ∷ 3 ∷ []) (tagOf entry-type.the-type r) → record { at = at; bytes = [] } ≡ partBy at s (entryRead r)
+other : (at : ℕ × ℕ) (s : List ℕ) (r : EntryRead)
+    → OneOf (1 ∷ 2 ∷ 3 ∷ []) (tagOf entry-type.the-type r) → record { at = at; bytes = [] } ≡ partBy at s (entryRead r)
 other at s (Entry a m) k = absurd (miss (1 ∷ 2 ∷ 3 ∷ []) 0 tt k)
 other at s Lacking k = part-none at s 20 alone
 other at s BadSize k = part-none at s 21 alone

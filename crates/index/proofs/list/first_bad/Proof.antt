@@ -8,43 +8,48 @@ use Rattle.index.specs.FormedLaws.{none-left, next-entry, bad-entry, fro
 use Rattle.index.specs.IndexLaws.{size-there, zero-offset, descends, passes, present}
 use Rattle.index.specs.OffsetLaws.{start-mono}
 use Rattle.index.specs.Formed.{entriesFrom, formation}
-use Rattle.index.specs.Index.{offset}
+use Rattle.index.specs.Code.{offsetOf}
 use Rattle.index.proofs.list.first_bad.Statement.{statement}
 use Rattle.index.proofs.list.first_bad.Tie as tie
 
 abbrev Inv-loop : tie.InvT-loop
-Inv-loop s count size mask last before₀ i₀ before i = (i ≤ count) × (before ≡ offset 2 s (getD s 2 0) i) × (0 < before) × (entriesFrom 2 s i (count - i) ≡ formation 2 s)
+Inv-loop s width count size mask last before₀ i₀ before i =
+    (i ≤ count) × (before ≡ offsetOf width s i) × (0 < before) × (entriesFrom width s i (count - i) ≡ formation width s)
 
 abbrev μ-loop : tie.MeasureT-loop
-μ-loop s count size mask last before₀ i₀ before i = count - i
+μ-loop s width count size mask last before₀ i₀ before i = count - i
 
 shared-slice-read-size : tie.Need-shared-slice-read-size Inv-loop μ-loop
-shared-slice-read-size c = let h = size-there (c .before .before .pre .head) in omega arith
+shared-slice-read-size c = let h = size-there (c .before .before .pre .1 .head) in omega arith
 
 cast-size : tie.Need-cast-size Inv-loop μ-loop
-cast-size c = omega (arith, c .shared-slice-known2 .given 2)
+cast-size c = omega (arith, c .shared-slice-known2 .given (c .before .before .args .width))
 
 mask-of-requires : tie.Need-mask-of-requires Inv-loop μ-loop
 mask-of-requires c κs = omega arith
 
 offset-at-requires : tie.Need-offset-at-requires Inv-loop μ-loop
-offset-at-requires c κs = (c .mask-of .ensures, c .before .before .before .pre .head .offsets)
+offset-at-requires c κs =
+    let pre = c .before .before .before .pre in (c .mask-of .ensures, (pre .0, pre .1 .head .offsets))
 
 offset-at-requires-2 : tie.Need-offset-at-requires-2 Inv-loop μ-loop
-offset-at-requires-2 c κs = (c .before .mask-of .ensures, omega (arith, start-mono 2 {i = 0} {n = c .before .before .before .before .args .count} (getD (c .before .before .before .before .args .s .now) 2 0) (omega arith)))
+offset-at-requires-2 c κs =
+    let a = c .before .before .before .before .args in
+    let fewer = start-mono (a .width) {i = 0} {n = a .count} (getD (a .s .now) (a .width) 0) (omega arith) in
+    (c .before .mask-of .ensures, (omega arith, omega arith))
 
 returns : tie.Need-returns Inv-loop μ-loop
 returns c =
     let at-offset-at2 = c .before in
     let start = at-offset-at2 .before .before .before .before .before in
-    let f = start .pre in
+    let f = start .pre .1 in
     bad-entry _ _ (f .head .some) 25 (zero-offset _ _ _ f (at-offset-at2 .offset-at2 .ensures .0) refl (omega arith)) ∙ from-first _ _ f
 
 loop-holds : tie.Need-loop-holds Inv-loop μ-loop
 loop-holds c =
     let at-offset-at2 = c .before in
     let start = at-offset-at2 .before .before .before .before .before in
-    (omega arith, at-offset-at2 .offset-at2 .ensures .0, omega arith, from-first _ _ (start .pre))
+    (omega arith, at-offset-at2 .offset-at2 .ensures .0, omega arith, from-first _ _ (start .pre .1))
 
 cast-offset-at : tie.Need-cast-offset-at Inv-loop μ-loop
 cast-offset-at c = search needs
@@ -55,21 +60,24 @@ add-offset-at c = search needs
 offset-at-requires-3 : tie.Need-offset-at-requires-3 Inv-loop μ-loop
 offset-at-requires-3 c κs =
     let a = c .before .before .before .before .before .before .before .before .args in
-    (c .before .before .before .before .before .mask-of .ensures, omega (arith, start-mono 2 {i = c .before .loop .i + 1} {n = a .count} (getD (a .s .now) 2 0) (omega arith)))
+    let fewer = start-mono (a .width) {i = c .before .loop .i + 1} {n = a .count} (getD (a .s .now) (a .width) 0) (omega arith) in
+    (c .before .before .before .before .before .mask-of .ensures, (omega arith, omega arith))
 
 returns-2 : tie.Need-returns-2 Inv-loop μ-loop
 returns-2 c =
     let at-offset-at3 = c .before in
     let at-loop = at-offset-at3 .before .before in
     let start = at-loop .before .before .before .before .before .before .before in
-    bad-entry _ _ (omega arith) 25 (descends _ _ _ (start .pre) (at-loop .loop .inv .1) (at-offset-at3 .offset-at3 .ensures .0) (omega arith)) ∙ at-loop .loop .inv .3
+    bad-entry _ _ (omega arith) 25 (descends _ _ _ (start .pre .1) (at-loop .loop .inv .1) (at-offset-at3 .offset-at3 .ensures .0) (omega arith))
+    ∙ at-loop .loop .inv .3
 
 returns-3 : tie.Need-returns-3 Inv-loop μ-loop
 returns-3 c =
     let at-offset-at3 = c .before .before in
     let at-loop = at-offset-at3 .before .before in
     let start = at-loop .before .before .before .before .before .before .before in
-    bad-entry _ _ (omega arith) 25 (passes _ _ _ (start .pre) (at-loop .loop .inv .1) (at-offset-at3 .offset-at3 .ensures .0) (omega arith)) ∙ at-loop .loop .inv .3
+    bad-entry _ _ (omega arith) 25 (passes _ _ _ (start .pre .1) (at-loop .loop .inv .1) (at-offset-at3 .offset-at3 .ensures .0) (omega arith))
+    ∙ at-loop .loop .inv .3
 
 add-i : tie.Need-add-i Inv-loop μ-loop
 add-i c = search needs
@@ -82,7 +90,11 @@ loop-again c =
     let at-offset-at3 = c .before .before in
     let at-loop = at-offset-at3 .before .before in
     let start = at-loop .before .before .before .before .before .before .before in
-    (omega arith, at-offset-at3 .offset-at3 .ensures .0, omega arith, next-entry _ _ (omega arith) (present _ _ _ (start .pre) (at-loop .loop .inv .1) (at-offset-at3 .offset-at3 .ensures .0) (omega arith) (omega arith) (omega arith) (omega arith) refl refl) ∙ at-loop .loop .inv .3)
+    let next = at-offset-at3 .offset-at3 .ensures .0 in
+    let a = start .args in
+    let here = present (a .width) (a .s .now) (at-loop .loop .i) (start .pre .1) (at-loop .loop .inv .1) next
+    (omega arith) (omega arith) (omega arith) (omega arith) refl refl in
+    (omega arith, next, omega arith, next-entry _ _ (omega arith) here ∙ at-loop .loop .inv .3)
 
 returns-4 : tie.Need-returns-4 Inv-loop μ-loop
 returns-4 c = none-left _ _ (omega arith) ∙ c .before .loop .inv .3

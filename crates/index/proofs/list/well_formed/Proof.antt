@@ -1,16 +1,23 @@
 -- `index::list::well_formed` meets its contract. Assumes nothing.
-use mathlib.Core.Path.{_≡_, sym, ap, _∙_}
+use mathlib.Core.Path.{_≡_, sym, ap, subst, _∙_}
+use Prim.Native.Nat.{ℕ}
 use native.Mathlib.Omega.{arith}
-use borrow.Author.Needs.{needs}
+use Rattle.index.specs.Index.{widthOf, extent, indexRead}
+use Rattle.index.specs.Formed.{formation}
+use Rattle.index.specs.Code.{Full}
 use Rattle.index.specs.FormedLaws.{not-read, no-entries, fewer}
 use Rattle.index.specs.IndexLaws.{has, count-there, entries-full}
-use Rattle.index.specs.Index.{extent, indexRead}
+use borrow.Author.Needs.{needs}
 use Rattle.index.proofs.list.well_formed.Statement.{statement}
 use Rattle.index.proofs.list.well_formed.Tie as tie
 
 -- where the INDEX is read
-read : (c : tie.After-count) → has (c .count .given .0 .0) (c .count .given .0 .1 .0) ≡ extent 2 (c .before .before .before .before .args .s .now)
-read c = ap indexRead (sym (c .count .given .1)) ∙ c .before .before .read-index .ensures
+module _ (c : tie.After-count) where
+  abbrev start : tie.Start
+  start = c .before .before .before .before
+
+  read : has (c .count .given .0 .0) (c .count .given .0 .1 .0) ≡ extent (widthOf (start .args .width)) (start .args .s .now)
+  read = ap indexRead (sym (c .count .given .1)) ∙ c .before .before .read-index .ensures
 
 read-index-requires : tie.Need-read-index-requires
 read-index-requires c κs = search needs
@@ -24,14 +31,21 @@ enum-told-2 c = search needs
 enum-known-count : tie.Need-enum-known-count
 enum-known-count c = search needs
 
+width-of-requires : tie.Need-width-of-requires
+width-of-requires c κs = search needs
+
 first-bad-requires : tie.Need-first-bad-requires
-first-bad-requires c κs = entries-full 2 _ _ _ (read (c .before .before)) (omega arith) .0
+first-bad-requires c κs =
+    let counted = c .before .before .before in
+    let w = c .width-of .ensures in
+    let full = entries-full _ _ _ _ (read counted) (omega arith) .0 in
+    (w .1, subst (λ (k : ℕ). Full k (start counted .args .s .now) (counted .count .given .0 .0)) (sym (w .0)) full)
 
 returns : tie.Need-returns
-returns c = search needs
+returns c = c .first-bad .ensures ∙ ap (λ (k : ℕ). formation k (start (c .before .before .before .before) .args .s .now)) (c .before .width-of .ensures .0)
 
 count-at-requires : tie.Need-count-at-requires
-count-at-requires c κs = count-there 2 _ _ _ (read (c .before .before))
+count-at-requires c κs = count-there _ _ _ _ (read (c .before .before))
 
 returns-2 : tie.Need-returns-2
 returns-2 c = no-entries _ _ (read (c .before .before .before .before)) (omega arith) (omega arith)
@@ -53,6 +67,7 @@ well-formed-spec =
     enum-told
     enum-told-2
     enum-known-count
+    width-of-requires
     first-bad-requires
     returns
     count-at-requires

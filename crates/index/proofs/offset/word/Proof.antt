@@ -56,7 +56,10 @@ add-result-3 : tie.Need-add-result-3
 add-result-3 c = search needs
 
 returns : tie.Need-returns
-returns c = four-bytes _ _ (c .before .before .before .before .before .before .wide .ensures .0) (c .before .before .before .before .wide2 .ensures .0) (c .before .before .wide3 .ensures .0) (c .wide4 .ensures .0)
+returns c =
+    let third = c .before .before in
+    let second = third .before .before in
+    four-bytes _ _ (second .before .before .wide .ensures .0) (second .wide2 .ensures .0) (third .wide3 .ensures .0) (c .wide4 .ensures .0)
 
 pub word-spec : {M : Type 1} → statement M
 word-spec =
