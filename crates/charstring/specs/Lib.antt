@@ -1,9 +1,9 @@
 pub mod Words
-pub mod WordsLaws
-pub mod Short
+pub mod States
 pub mod Run
+pub mod WordsLaws
 pub mod LookLaws
+pub mod HereLaws
 pub mod TurnLaws
-pub mod ArmLaws
-pub mod Verdicts
-pub mod VerdictLaws
+pub mod EndLaws
+pub mod EnterLaws

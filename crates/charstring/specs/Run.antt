@@ -30,7 +30,7 @@ use Rattle.charstring.specs.declared.stretch.Ending.the-variants.{Back, 
 use Rattle.charstring.specs.declared.stretch.Stop.{Stop}
 use Rattle.charstring.specs.declared.stretch.Stop.the-variants.{Done as Finished, Call as Calling}
 use Rattle.charstring.specs.declared.stretch.Ran.{Ran}
-use Rattle.charstring.specs.declared.stretch.Stretch.{Stretch}
+use Rattle.charstring.specs.declared.stretch.Stretched.{Stretched}
 
 -- ---- what a token asks for
 
@@ -212,7 +212,7 @@ module _ (cs : List ℕ) (by : Limits) where
   Standing stack out s i = (g : Ground) × Here (upon g) stack out s i
 
   -- and on whatever ground it does, the stretch is the reading's
-  unfoldable pub StretchesTo : List ℕ → List ℕ → State → ℕ → Stretch → List ℕ → List ℕ → Type 0
+  unfoldable pub StretchesTo : List ℕ → List ℕ → State → ℕ → Stretched → List ℕ → List ℕ → Type 0
   StretchesTo stack out s i r stack₁ out₁ = (g : Ground) → Here (upon g) stack out s i → Reached g stack₁ out₁ (r .st) (r .stop)
 
 -- ---- a string

@@ -1,8 +1,8 @@
 -- What the code holds, in the reading's words.
-use mathlib.Core.Bool.{Bool, false, cond}
+use mathlib.Core.Bool.{false, cond}
 use mathlib.Core.List.{List, [], _∷_}
 use Prim.Native.Nat.{ℕ, zero, suc, _-_, _/_, _%_, _^_, _≤_, _<_}
-use lib.Dec.{leb, ltb, eqb}
+use lib.Dec.{leb, ltb}
 use lib.IntN.{pos}
 use lib.ListN.{getD, drop}
 use Rattle.number.specs.Answer.{Answer, accepted, refused, alone}
@@ -12,6 +12,9 @@ use Rattle.number.specs.Number.{Number as NumberAt, charstringRows, readBy}
 use Rattle.number.specs.declared.Operand.{Operand}
 use Rattle.index.specs.Index.{Place, place}
 use Rattle.reading.specs.Tokens.{number, operator, Cut, token, lacking}
+use Rattle.reading.specs.Rules.{Rules}
+use Rattle.reading.specs.Lists.{Entry, present, absent}
+use Rattle.reading.specs.Reading.{admitted}
 use Rattle.reading.specs.Answers.{numberOf}
 use Rattle.charstring.specs.declared.token.Token.{Token}
 use Rattle.charstring.specs.declared.token.Token.the-variants.{Number, Operator, Lacking}
@@ -53,18 +56,21 @@ stackOf l (suc n) = unpackOf (getD l n 0) ∷ stackOf l n
 
 -- ---- the entry that a call enters
 
--- by document 01's order: 10, 8, where the entry is there
-unfoldable pub enterBy : ℕ → ℕ → Answer Place → Answer Place
-enterBy levels tail (refused n v) = refused 9 alone
-enterBy levels tail (accepted p) = cond (eqb levels 0) (refused 10 alone) (cond (ltb 0 tail) (accepted p) (refused 8 alone))
+abbrev pub asEntry : Answer Place → Entry Place
+asEntry (accepted p) = present p
+asEntry (refused n v) = absent
 
--- 7, or 9 for the number; 9 for an entry that is absent
-unfoldable pub aimBy : List ℕ → ℕ → ℕ → Answer ℕ → Answer Place
-aimBy list levels tail (refused n v) = refused n alone
-aimBy list levels tail (accepted k) = enterBy levels tail (place 2 list k)
+-- 9, 10, 8 in the reading's own order; `tail` counts the operands that stand last in the flat string
+abbrev pub enterable : ℕ → ℕ → Answer Place → Answer Place
+enterable levels tail x = admitted levels (ltb 0 tail) (asEntry x)
 
-unfoldable pub aimed : List ℕ → ℕ → Operand → Bool → ℕ → ℕ → Answer Place
-aimed list count o exact levels tail = aimBy list levels tail (callee exact count o)
+-- 7, or 9 for the number, before that
+unfoldable pub aimBy : ℕ → List ℕ → ℕ → ℕ → Answer ℕ → Answer Place
+aimBy w list levels tail (refused n v) = refused n alone
+aimBy w list levels tail (accepted k) = enterable levels tail (place w list k)
+
+unfoldable pub aimed : Rules → List ℕ → ℕ → Operand → ℕ → ℕ → Answer Place
+aimed rules list count o levels tail = aimBy (rules .width) list levels tail (callee (rules .exact) count o)
 
 abbrev pub targetOf : Target → Answer Place
 targetOf (Enter from to) = accepted (record { start = from; size = to - from })

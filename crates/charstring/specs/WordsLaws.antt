@@ -11,12 +11,9 @@ use lib.ListN.{length, getD, set, take, drop, length-append, length-set, take-ap
 use lib.Seq.{take-suc, take-all, length-take-le, ext-getD, getD-take, getD-set-same, getD-set-other, getD-append-seam, set-out, sets, length-sets, sets-eq}
 use Rattle.number.specs.declared.Operand.{Operand}
 use Rattle.charstring.specs.Words.{unpackOf, stackOf}
+use Rattle.charstring.specs.Run.{Begins}
 
 -- ---- bytes stored as far as the room goes
-
--- as far as both go, the list l has the bytes f
-unfoldable pub Written : List ℕ → List ℕ → Type 0
-Written l f = (k : ℕ) → k < length l → k < length f → getD l k 0 ≡ getD f k 0
 
 pub sets-append : (l : List ℕ) (at : ℕ) (xs ys : List ℕ) → sets l at (xs ++ ys) ≡ sets (sets l at xs) (at + length xs) ys
 sets-append l at [] ys = rw add-zero
@@ -58,36 +55,36 @@ module _ (l : List ℕ) (at : ℕ) (bs : List ℕ) where
 
 -- ---- what is written is kept
 
-set-written : (b : ℕ) (l f : List ℕ) → Written l f → Written (set l (length f) b) (f ++ b ∷ [])
-unfolding Written
-set-written b l f w k h j =
+set-begins : (b : ℕ) (l f : List ℕ) → Begins l f → Begins (set l (length f) b) (f ++ b ∷ [])
+unfolding Begins
+set-begins b l f w k h j =
     let same : length (set l (length f) b) ≡ length l = length-set l (length f) b in
     ⊎-elim
     (λ e. rw e (getD-set-same l (length f) b 0 (omega arith) ∙ sym (getD-append-seam f b [] 0)))
     (λ q. getD-set-other l (length f) k b 0 (λ e. omega arith) ∙ w k (omega arith) q ∙ sym (List·getD-append f (b ∷ []) 0 k q))
     (eq-or-lt-of-le (let e : length (f ++ b ∷ []) ≡ length f + 1 = length-append f (b ∷ []) in omega arith))
 
-pub sets-written : (l : List ℕ) (at : ℕ) (bs f : List ℕ) → length f ≡ at → Written l f → Written (sets l at bs) (f ++ bs)
-sets-written l at [] f e w = rw append-nil w
-sets-written l at (b ∷ bs) f e w =
+pub sets-begins : (l : List ℕ) (at : ℕ) (bs f : List ℕ) → length f ≡ at → Begins l f → Begins (sets l at bs) (f ++ bs)
+sets-begins l at [] f e w = rw append-nil w
+sets-begins l at (b ∷ bs) f e w =
     rw (← append-assoc f (b ∷ []) bs)
-    (sets-written (set l at b) (suc at) bs (f ++ b ∷ [])
+    (sets-begins (set l at b) (suc at) bs (f ++ b ∷ [])
     (let q : length (f ++ b ∷ []) ≡ length f + 1 = length-append f (b ∷ []) in omega arith)
-    (rw e at (set-written b l f w)))
+    (rw e at (set-begins b l f w)))
 
-pub written-none : (l : List ℕ) → Written l []
-unfolding Written
-written-none l k h j = absurd (omega arith)
+pub begins-none : (l : List ℕ) → Begins l []
+unfolding Begins
+begins-none l k h j = absurd (omega arith)
 
-pub written-cut : (l f g : List ℕ) → Written l (f ++ g) → Written l f
-unfolding Written
-written-cut l f g w k h j = w k h (let e : length (f ++ g) ≡ length f + length g = length-append f g in omega arith) ∙ List·getD-append f g 0 k j
+pub begins-cut : (l f g : List ℕ) → Begins l (f ++ g) → Begins l f
+unfolding Begins
+begins-cut l f g w k h j = w k h (let e : length (f ++ g) ≡ length f + length g = length-append f g in omega arith) ∙ List·getD-append f g 0 k j
 
 -- ---- a whole string
 
-pub written-take : (n : ℕ) (l f : List ℕ) → Written l f → length f ≡ n → n ≤ length l → take n l ≡ f
-unfolding Written
-written-take n l f w e r =
+pub begins-take : (n : ℕ) (l f : List ℕ) → Begins l f → length f ≡ n → n ≤ length l → take n l ≡ f
+unfolding Begins
+begins-take n l f w e r =
     let len : length (take n l) ≡ n = length-take-le n l r in
     ext-getD 0 (take n l) f (len ∙ sym e) (λ k h. getD-take n l k 0 (omega arith) ∙ w k (omega arith) (omega arith))
 

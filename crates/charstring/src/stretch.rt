@@ -37,7 +37,7 @@ pub(crate) enum Stop {
     Call(usize, Which),
 }
 
-pub(crate) struct Stretch {
+pub(crate) struct Stretched {
     pub st: State,
     pub stop: Stop,
 }
@@ -50,7 +50,7 @@ pub(crate) fn stretch(
     s: State,
     stack: &mut [u64],
     out: &mut [u8],
-) -> Stretch
+) -> Stretched
     requires { ⌜ Roomy by (now stack) ⌝ }
     requires { ⌜ Standing (now cs) by (now stack) (now out) s from ⌝ }
     ensures { λ r. ⌜ StretchesTo (now (cs .entry)) by (now (stack .entry)) (now (out .entry)) s from r (now (stack .exit)) (now (out .exit)) ⌝ }
@@ -86,7 +86,7 @@ pub(crate) fn stretch(
                 i = b;
             }
             Request::Calls(next, which) => {
-                return Stretch {
+                return Stretched {
                     st,
                     stop: Stop::Call(next, which),
                 };
@@ -109,10 +109,10 @@ pub(crate) fn stretch(
 }
 
 // A stretch that ends the string.
-fn ended(st: State, how: Ending) -> Stretch
+fn ended(st: State, how: Ending) -> Stretched
     ensures { λ r. ⌜ r ≡ record { st = st; stop = Stop.Done how } ⌝ }
 {
-    Stretch {
+    Stretched {
         st,
         stop: Stop::Done(how),
     }

@@ -6,8 +6,8 @@ use lib.Dec.{eqb}
 use borrow.Fn.Kinds.{Dens, resT, endedOf}
 use contract.Lifetimes.{Lfts}
 use denote.Triple.Clauses.{AtExit}
-use Rattle.index.specs.declared.read.Width.{Width}
-use Rattle.index.specs.declared.read.Width.the-variants.{Two, Four}
+use Rattle.index.specs.declared.width.Width.{Width}
+use Rattle.index.specs.declared.width.Width.the-variants.{Two, Four}
 use Rattle.index.specs.Index.{widthOf}
 use Rattle.reading.specs.Rules.{Rules, meant}
 use Rattle.reading.specs.declared.Rules.{Rules as CodeRules}
