@@ -226,6 +226,7 @@ unfolding code.routine tablesOf
 view-index-spec 𝓤 H 𝓜 𝓖 𝓡 =
     entered 𝓤 H (tripleOf 𝓤 H (𝓖 .A) view-index.signature (view-index.spec 𝓤 H (𝓖 .A) (𝓜 .mem) (𝓡 .run)))
     (tables 𝓤 H 𝓜 𝓡 code.env .C) (tables 𝓤 H 𝓜 𝓡 code.env .Λ) #view-index code.function (code.unfolded 𝓤 H 𝓜 𝓡)
-    (view-index-meets 𝓤 H (𝓖 .A) (givenOf 𝓤 H 𝓜 𝓖) (𝓜 .mem) (𝓡 .run) (tablesOf 𝓤 H 𝓜 (tables 𝓤 H 𝓜 𝓡 code.env))
-    (cited 𝓤 H _ 𝓜 𝓡 code.env #head-of head-of-def.routine code.calls-index-view·head-of (head-of-thm.met 𝓤 H 𝓜 𝓖 𝓡),
-    cited 𝓤 H _ 𝓜 𝓡 code.env #first first-def.routine code.calls-index-view·first (first-thm.met 𝓤 H 𝓜 𝓖 𝓡)))
+    (view-index-meets 𝓤 H (𝓖 .A) (givenOf 𝓤 H 𝓜 𝓖) (𝓜 .mem) (𝓡 .run) (tablesOf 𝓤 H 𝓜 (tables 𝓤 H 𝓜 𝓡 code.env)) (
+      cited 𝓤 H _ 𝓜 𝓡 code.env #head-of head-of-def.routine code.calls-index-view·head-of (head-of-thm.met 𝓤 H 𝓜 𝓖 𝓡),
+      cited 𝓤 H _ 𝓜 𝓡 code.env #first first-def.routine code.calls-index-view·first (first-thm.met 𝓤 H 𝓜 𝓖 𝓡),
+    ))
