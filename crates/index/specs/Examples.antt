@@ -4,7 +4,7 @@ use mathlib.Core.List.{List, [], _∷_}
 use Prim.Native.Nat.{ℕ}
 use Rattle.number.specs.Answer.{refused, alone}
 use Rattle.number.specs.BigEndian.{beAt}
-use Rattle.index.specs.Index.{offset, byLast, bySize, byCount, extent, absent, placeBy, placeIn, place, placeSeen, bytesBy, part, startBy, partBy}
+use Rattle.index.specs.Index.{offset, byLast, bySize, byCount, extent, absent, placeBy, placeIn, place, bytesBy, part}
 use Rattle.index.specs.Formed.{yes, unread, emptied, bad, entriesFrom, formedBy, formation}
 use Rattle.index.specs.IndexLaws.{has, lies}
 

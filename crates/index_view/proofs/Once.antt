@@ -1,4 +1,4 @@
--- Each public contract of the view fixes its result, as Once.antt has it for the plain reader. A function over a struct that holds a slice
+-- Each public contract of the view fixes its result, as Once.antt of the crate index has it for the plain reader. A function over a struct that holds a slice
 -- has no generated reading: so what its `ensures` says is shown to be one fact, and that fact fixes the result. Assumes nothing.
 use mathlib.Core.Path.{_≡_, refl, sym, ap, _∙_}
 use mathlib.Core.List.{List}
@@ -56,6 +56,7 @@ view-index-once s r r′ p p′ = p ∙ sym p′
 pub view-part-once : (v : View) (i : ℕ) (r r′ : RefT (List ℕ)) → PartIs v i r → PartIs v i r′ → (ptr r ≡ ptr r′) × (now r ≡ now r′)
 view-part-once v i r r′ p p′ = parts-same r r′ (p ∙ sym p′)
 
-pub part-by-view-once : (κs : Lfts 1) (a : Dens κs by-view-kinds.ps) (r r′ : resT by-view-kinds.r κs .Denot) (x x′ : AtExit (endedOf 1 by-view-kinds.ps by-view-kinds.r) κs)
+pub part-by-view-once : (κs : Lfts 1) (a : Dens κs by-view-kinds.ps) (r r′ : resT by-view-kinds.r κs .Denot)
+    (x x′ : AtExit (endedOf 1 by-view-kinds.ps by-view-kinds.r) κs)
     → by-view-reads.Post κs a r x → by-view-reads.Post κs a r′ x′ → (r .ptr ≡ r′ .ptr) × (r .now ≡ r′ .now)
 part-by-view-once κs a r r′ x x′ p p′ = parts-same r r′ (p ∙ sym p′)

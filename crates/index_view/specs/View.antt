@@ -4,7 +4,7 @@ use Prim.Native.Nat.{ℕ}
 use mathlib.Core.List.{List, []}
 use lib.ListN.{getD, take}
 use denote.Ref.{ptr, now}
-use Rattle.number.specs.Answer.{Answer, accepted, refused, alone}
+use Rattle.number.specs.Answer.{Answer, accepted, refused}
 use Rattle.index_view.specs.declared.View.{View}
 use Rattle.index.specs.Index.{Extent, Part, extent, partSeen}
 

@@ -37,7 +37,8 @@ module _ (w : ℕ) (s : List ℕ) where
   unfolding headOf headBy viewOf viewBy
   view-made at p l h e q k = rw (q, k, e) (go (extent w s))
     where
-      go : (x : Answer Extent) → record { at = at; bytes = take (headBy w s x .taken) s; count = headBy w s x .count; size = headBy w s x .size } ≡ viewBy w at s x
+      go : (x : Answer Extent)
+          → record { at = at; bytes = take (headBy w s x .taken) s; count = headBy w s x .count; size = headBy w s x .size } ≡ viewBy w at s x
       go (accepted x) = refl
       go (refused k v) = refl
 

@@ -17,7 +17,8 @@ use Rattle.index_view.proofs.head_of.Statement.{statement}
 use Rattle.index_view.proofs.head_of.Tie as tie
 
 -- any other answer, by its tag
-other : (s : List ℕ) (r : IndexRead) → OneOf (1 ∷ 2 ∷ []) (tagOf read-type.the-type r) → indexRead r ≡ extent 2 s → record { taken = 0; count = 0; size = 0 } ≡ headOf 2 s
+other : (s : List ℕ) (r : IndexRead) → OneOf (1 ∷ 2 ∷ []) (tagOf read-type.the-type r) → indexRead r ≡ extent 2 s
+    → record { taken = 0; count = 0; size = 0 } ≡ headOf 2 s
 other s (Read n t) k e = absurd (miss (1 ∷ 2 ∷ []) 0 tt k)
 other s Lacking k e = head-refused 2 s 20 e
 other s BadSize k e = head-refused 2 s 21 e
