@@ -16,7 +16,7 @@ use Rattle.number.specs.declared.Operand.{Operand}
 use Rattle.index.specs.Index.{Place, extent, place, bytesBy, part}
 use Rattle.reading.specs.Lists.{Subrs, listed, countIn, entryBy, subrsOf}
 use Rattle.reading.specs.Items.{Item, operand, bare, masked}
-use Rattle.reading.specs.Reading.{Entering, struck, Ending as How, back, ended, stopped, Run, State as Now, enter, refuse, entered as into-entry, closed}
+use Rattle.reading.specs.Reading.{Entering, struck, Ending as How, back, ended, stopped, Run, State as Now, Step, enter, refuse, entered as into-entry, closed}
 use Rattle.reading.specs.Reading.{endsInOperand, admitted, onEntry, onIndex, onCall, onOperator, onCut, onToken, resume, after, read}
 use Rattle.reading.specs.Flat.{spelled, flat}
 use Rattle.reading.specs.StepLaws.{enters}
@@ -46,22 +46,22 @@ ends-tail (operand o ∷ f) = sym (lt-ltb 0 (suc (tailOf f)) (omega arith))
 ends-tail (bare p ∷ f) = refl
 ends-tail (masked p m ∷ f) = refl
 
-same-refusal : (n m : ℕ) (t : Now) → refused {A = Place} n alone ≡ refused m alone → refuse n t ≡ refuse m t
-same-refusal n m t e = let same : n ≡ m = cc in ap (λ (z : ℕ). refuse z t) same
+same-refusal : {A : Type 0} (n m : ℕ) (t : Now) (x y : Answer A) → x ≡ refused n alone → y ≡ refused m alone → x ≡ y → refuse n t ≡ refuse m t
+same-refusal n m t x y p q e = let same : n ≡ m = cc in ap (λ (z : ℕ). refuse z t) same
 
 module _ (levels : ℕ) (last : Bool) where
   -- where the place of an entry is refused by 9, 10 or 8, so is its token
   entry-refused : (rest : List ℕ) (t : Now) (c : Entering) (y : Answer Place) (body : List ℕ) (n : ℕ) → admitted levels last (asEntry y) ≡ refused n alone
       → onEntry rest t c (admitted levels last (entryBy body y)) ≡ refuse n t
   unfolding onEntry entryBy admitted
-  entry-refused rest t c (refused m v) body n q = same-refusal 9 n t q
+  entry-refused rest t c (refused m v) body n q = same-refusal 9 n t _ _ refl refl q
   entry-refused rest t c (accepted p) body n q = go-by (eqb levels 0) last q
     where
       go-by : (x z : Bool) → cond x (refused 10 alone) (cond z (accepted p) (refused 8 alone)) ≡ refused n alone
           → onEntry rest t c (cond x (refused 10 alone) (cond z (accepted body) (refused 8 alone))) ≡ refuse n t
-      go-by true z q = same-refusal 10 n t q
+      go-by true z q = same-refusal 10 n t _ _ refl refl q
       go-by false true q = refused-accepted (sym q)
-      go-by false false q = same-refusal 8 n t q
+      go-by false false q = same-refusal 8 n t _ _ refl refl q
 
   entry-admitted : (y : Answer Place) (p : Place) → admitted levels last (asEntry y) ≡ accepted p → (y ≡ accepted p) × ((levels ≡ 0 → ⊥) × (last ≡ true))
   unfolding admitted
@@ -156,7 +156,7 @@ module _ (u : Setup) (stack out : List ℕ) (s : State) (i : ℕ) (h : Here u st
   unfolding subrsOf
   entry-is n = ap (λ (l : Subrs). l .entry n) (its .is-list)
 
-  abbrev onNumbered : Answer ℕ → _
+  abbrev onNumbered : Answer ℕ → Step
   onNumbered = onIndex (u .levels) (drop j (u .cs)) (h .now) which (listed (u .lists) which) (place-of u stack out s i h) top
 
   -- the token, once the operand and what it names are known
@@ -172,7 +172,7 @@ module _ (u : Setup) (stack out : List ℕ) (s : State) (i : ℕ) (h : Here u st
 
   refusal-step : (x : Answer ℕ) (n : ℕ) → aimBy (u .rules .width) list (u .levels) (s .tail) x ≡ refused n alone → onNumbered x ≡ refuse n (h .now)
   unfolding onIndex aimBy
-  refusal-step (refused m v) n e = same-refusal m n (h .now) e
+  refusal-step (refused m v) n e = same-refusal m n (h .now) _ _ refl refl e
   refusal-step (accepted m) n e =
       let c : Entering = record { list = which; entry = m; at = place-of u stack out s i h; index = top } in
       ap (λ y. onEntry (drop j (u .cs)) (h .now) c (admitted (u .levels) (endsInOperand (struck (h .now .shown))) y)) (entry-is m)

@@ -89,6 +89,11 @@ module _ (u : Setup) (stack out : List ℕ) (s : State) (i : ℕ) (h : Here u st
   -- ---- operators
 
   module _ (p : Operator) where
+    hints-now : (x : ℕ) → x ≡ s .hints + s .count / 2 → counted (h .now .left) .hints ≡ x
+    hints-now x e =
+        let c = counted-as u stack out s i h in
+        ap (λ (n : ℕ). n + length (h .now .left .operands) / 2) (c .hints-are) ∙ ap (λ (n : ℕ). s .hints + n / 2) (c .count-is) ∙ sym e
+
     -- one that clears the stack
     clear-turn : (j hints length₁ : ℕ) (x : Left) (out₁ : List ℕ) → AtOperator (u .cs) i j (s .tokens) (u .budget) p
         → Leads u stack out s i h (go (drop j (u .cs)) (shows (bare p) x (h .now)))
@@ -111,11 +116,6 @@ module _ (u : Setup) (stack out : List ℕ) (s : State) (i : ℕ) (h : Here u st
         let is = hints-now hints e in
         clear-turn j hints length₁ (counted (h .now .left)) out₁ a
         (stems p (drop j (u .cs)) (a .cut-is) k (subst (λ (n : ℕ). n ≤ u .rules .hints) (sym is) l)) d long refl is l (h .repr .mask-is)
-
-    hints-now : (x : ℕ) → x ≡ s .hints + s .count / 2 → counted (h .now .left) .hints ≡ x
-    hints-now x e =
-        let c = counted-as u stack out s i h in
-        ap (λ (n : ℕ). n + length (h .now .left .operands) / 2) (c .hints-are) ∙ ap (λ (n : ℕ). s .hints + n / 2) (c .count-is) ∙ sym e
 
     -- a mask
     abbrev now-fixed : Left
