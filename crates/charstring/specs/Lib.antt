@@ -7,3 +7,4 @@ pub mod HereLaws
 pub mod TurnLaws
 pub mod EndLaws
 pub mod EnterLaws
+pub mod StretchLaws

@@ -34,7 +34,8 @@ pub(crate) fn run<'a>(
     loop {
         let reached = stretch(cs, i, by, st, stack, out);
         let here = reached.st;
-        match reached.stop {
+        let stop = reached.stop;
+        match stop {
             Stop::Done(how) => {
                 return Ran { how, st: here };
             }

@@ -37,7 +37,8 @@ pub fn flatten<'a>(
 ) -> Flattened
     ensures { λ r. ⌜ record { answer = flattened r; left = now (out .exit) } ≡ flattening (rulesOf profile) (now (cs .entry)) (now (globals .entry)) (now (locals .entry)) budget (now (out .entry)) ⌝ }
 {
-    let width = rules_of(profile).width;
+    let rules = rules_of(profile);
+    let width = rules.width;
     let Formed::Yes(_) = well_formed(globals, width) else {
         return Flattened::BadGlobals;
     };
@@ -125,11 +126,12 @@ fn keep(out: &mut [u8], n: usize, held: &[u8])
 fn limits_of(rules: Rules, budget: u32, globals: &[u8], locals: &[u8]) -> Limits
     ensures { λ r. ⌜ r ≡ record { rules = rules; budget = budget; globals = countOf rules (now (globals .entry)); locals = countOf rules (now (locals .entry)) } ⌝ }
 {
+    let width = rules.width;
     Limits {
         rules,
         budget,
-        globals: count_of(globals, rules.width),
-        locals: count_of(locals, rules.width),
+        globals: count_of(globals, width),
+        locals: count_of(locals, width),
     }
 }
 

@@ -1,0 +1,345 @@
+use Prim.Native.Nat.{ℕ, _-_}
+use mathlib.Core.Path.{_≡_}
+use lib.ListN.{length}
+use Rattle.charstring.specs.StretchLaws.{Stands}
+use Rattle.charstring.proofs.stretch.stretch.Statement.{statement}
+use Rattle.charstring.proofs.stretch.stretch.Tie as tie
+use Rattle.charstring.proofs.stretch.stretch.Reads as reads
+use Rattle.charstring.proofs.stretch.stretch.Lts as lts
+use Rattle.charstring.proofs.argstack.pack.Reads as pack-reads
+use Rattle.charstring.proofs.argstack.pack_short.Reads as pack-short-reads
+use Rattle.charstring.proofs.look.look.Reads as look-reads
+use Rattle.charstring.proofs.state.clear.Reads as clear-reads
+use Rattle.charstring.proofs.state.finish.Reads as finish-reads
+use Rattle.charstring.proofs.state.go_back.Reads as go-back-reads
+use Rattle.charstring.proofs.state.mask.Reads as mask-reads
+use Rattle.charstring.proofs.state.push.Reads as push-reads
+use Rattle.charstring.proofs.store.put_bytes.Reads as put-bytes-reads
+use Rattle.charstring.proofs.store.put_operand.Reads as put-operand-reads
+use Rattle.charstring.proofs.store.put_operator.Reads as put-operator-reads
+use Rattle.charstring.proofs.store.put_two.Reads as put-two-reads
+use Rattle.charstring.proofs.stretch.ended.Reads as ended-reads
+
+abbrev Inv-loop : tie.InvT-loop
+Inv-loop cs from by stack₀ out₀ st₀ i₀ stack out st i =
+    (length stack ≡ length stack₀) × (length out ≡ length out₀) × Stands cs by stack₀ out₀ st₀ i₀ stack out st i
+
+abbrev μ-loop : tie.MeasureT-loop
+μ-loop cs from by stack₀ out₀ st₀ i₀ stack out st i = length cs - i
+
+-- src/stretch.rt:60:5
+loop-holds : tie.Need-loop-holds Inv-loop μ-loop
+loop-holds c = ?
+
+-- src/stretch.rt:61:15
+look-requires : tie.Need-look-requires Inv-loop μ-loop
+look-requires c κs = ?
+
+-- src/stretch.rt:63:28
+enum-known-next : tie.Need-enum-known-next Inv-loop μ-loop
+enum-known-next c = ?
+
+-- src/stretch.rt:64:17
+put-two-requires : tie.Need-put-two-requires Inv-loop μ-loop
+put-two-requires c κs = ?
+
+-- src/stretch.rt:66:32
+pack-short-requires : tie.Need-pack-short-requires Inv-loop μ-loop
+pack-short-requires c κs = ?
+
+-- src/stretch.rt:66:17
+mul-stack : tie.Need-mul-stack Inv-loop μ-loop
+mul-stack c = ?
+
+-- src/stretch.rt:66:17
+slice-write-stack : tie.Need-slice-write-stack Inv-loop μ-loop
+slice-write-stack c = ?
+
+-- src/stretch.rt:67:44
+sub-push : tie.Need-sub-push Inv-loop μ-loop
+sub-push c = ?
+
+-- src/stretch.rt:67:31
+add-push : tie.Need-add-push Inv-loop μ-loop
+add-push c = ?
+
+-- src/stretch.rt:67:17
+push-requires : tie.Need-push-requires Inv-loop μ-loop
+push-requires c κs = ?
+
+-- src/stretch.rt:60:5
+loop-less : tie.Need-loop-less Inv-loop μ-loop
+loop-less c = ?
+
+-- src/stretch.rt:60:5
+loop-again : tie.Need-loop-again Inv-loop μ-loop
+loop-again c = ?
+
+-- src/stretch.rt:70:29
+enum-known-next-2 : tie.Need-enum-known-next-2 Inv-loop μ-loop
+enum-known-next-2 c = ?
+
+-- src/stretch.rt:71:21
+put-operator-requires : tie.Need-put-operator-requires Inv-loop μ-loop
+put-operator-requires c κs = ?
+
+-- src/stretch.rt:72:17
+clear-requires : tie.Need-clear-requires Inv-loop μ-loop
+clear-requires c κs = ?
+
+-- src/stretch.rt:60:5
+loop-less-2 : tie.Need-loop-less-2 Inv-loop μ-loop
+loop-less-2 c = ?
+
+-- src/stretch.rt:60:5
+loop-again-2 : tie.Need-loop-again-2 Inv-loop μ-loop
+loop-again-2 c = ?
+
+-- src/stretch.rt:75:27
+enum-known-next-3 : tie.Need-enum-known-next-3 Inv-loop μ-loop
+enum-known-next-3 c = ?
+
+-- src/stretch.rt:76:21
+put-operand-requires : tie.Need-put-operand-requires Inv-loop μ-loop
+put-operand-requires c κs = ?
+
+-- src/stretch.rt:78:32
+pack-requires : tie.Need-pack-requires Inv-loop μ-loop
+pack-requires c κs = ?
+
+-- src/stretch.rt:78:17
+mul-stack-2 : tie.Need-mul-stack-2 Inv-loop μ-loop
+mul-stack-2 c = ?
+
+-- src/stretch.rt:78:17
+slice-write-stack-2 : tie.Need-slice-write-stack-2 Inv-loop μ-loop
+slice-write-stack-2 c = ?
+
+-- src/stretch.rt:79:17
+push-requires-2 : tie.Need-push-requires-2 Inv-loop μ-loop
+push-requires-2 c κs = ?
+
+-- src/stretch.rt:60:5
+loop-less-3 : tie.Need-loop-less-3 Inv-loop μ-loop
+loop-less-3 c = ?
+
+-- src/stretch.rt:60:5
+loop-again-3 : tie.Need-loop-again-3 Inv-loop μ-loop
+loop-again-3 c = ?
+
+-- src/stretch.rt:82:28
+enum-known-a : tie.Need-enum-known-a Inv-loop μ-loop
+enum-known-a c = ?
+
+-- src/stretch.rt:83:21
+put-operator-requires-2 : tie.Need-put-operator-requires-2 Inv-loop μ-loop
+put-operator-requires-2 c κs = ?
+
+-- src/stretch.rt:84:53
+sub-put-bytes : tie.Need-sub-put-bytes Inv-loop μ-loop
+sub-put-bytes c = ?
+
+-- src/stretch.rt:84:53
+part-put-bytes-start : tie.Need-part-put-bytes-start Inv-loop μ-loop
+part-put-bytes-start c = ?
+
+-- src/stretch.rt:84:53
+part-put-bytes-end : tie.Need-part-put-bytes-end Inv-loop μ-loop
+part-put-bytes-end c = ?
+
+-- src/stretch.rt:84:21
+put-bytes-requires : tie.Need-put-bytes-requires Inv-loop μ-loop
+put-bytes-requires c κs = ?
+
+-- src/stretch.rt:85:45
+sub-mask : tie.Need-sub-mask Inv-loop μ-loop
+sub-mask c = ?
+
+-- src/stretch.rt:85:17
+mask-requires : tie.Need-mask-requires Inv-loop μ-loop
+mask-requires c κs = ?
+
+-- src/stretch.rt:60:5
+loop-less-4 : tie.Need-loop-less-4 Inv-loop μ-loop
+loop-less-4 c = ?
+
+-- src/stretch.rt:60:5
+loop-again-4 : tie.Need-loop-again-4 Inv-loop μ-loop
+loop-again-4 c = ?
+
+-- src/stretch.rt:88:28
+enum-known-next-4 : tie.Need-enum-known-next-4 Inv-loop μ-loop
+enum-known-next-4 c = ?
+
+-- src/stretch.rt:89:17
+same-length : tie.Need-same-length Inv-loop μ-loop
+same-length c = ?
+
+-- src/stretch.rt:89:17
+same-length-2 : tie.Need-same-length-2 Inv-loop μ-loop
+same-length-2 c = ?
+
+-- src/stretch.rt:89:17
+returns : tie.Need-returns Inv-loop μ-loop
+returns c = ?
+
+-- src/stretch.rt:95:30
+enum-told : tie.Need-enum-told Inv-loop μ-loop
+enum-told c = ?
+
+-- src/stretch.rt:95:30
+go-back-requires : tie.Need-go-back-requires Inv-loop μ-loop
+go-back-requires c κs = ?
+
+-- src/stretch.rt:95:17
+ended-requires : tie.Need-ended-requires Inv-loop μ-loop
+ended-requires c κs = ?
+
+-- src/stretch.rt:95:17
+same-length-3 : tie.Need-same-length-3 Inv-loop μ-loop
+same-length-3 c = ?
+
+-- src/stretch.rt:95:17
+same-length-4 : tie.Need-same-length-4 Inv-loop μ-loop
+same-length-4 c = ?
+
+-- src/stretch.rt:95:17
+returns-2 : tie.Need-returns-2 Inv-loop μ-loop
+returns-2 c = ?
+
+-- src/stretch.rt:97:27
+enum-known-p : tie.Need-enum-known-p Inv-loop μ-loop
+enum-known-p c = ?
+
+-- src/stretch.rt:98:21
+put-operator-requires-3 : tie.Need-put-operator-requires-3 Inv-loop μ-loop
+put-operator-requires-3 c κs = ?
+
+-- src/stretch.rt:99:30
+finish-requires : tie.Need-finish-requires Inv-loop μ-loop
+finish-requires c κs = ?
+
+-- src/stretch.rt:99:17
+ended-requires-2 : tie.Need-ended-requires-2 Inv-loop μ-loop
+ended-requires-2 c κs = ?
+
+-- src/stretch.rt:99:17
+same-length-5 : tie.Need-same-length-5 Inv-loop μ-loop
+same-length-5 c = ?
+
+-- src/stretch.rt:99:17
+same-length-6 : tie.Need-same-length-6 Inv-loop μ-loop
+same-length-6 c = ?
+
+-- src/stretch.rt:99:17
+returns-3 : tie.Need-returns-3 Inv-loop μ-loop
+returns-3 c = ?
+
+-- src/stretch.rt:102:34
+enum-told-2 : tie.Need-enum-told-2 Inv-loop μ-loop
+enum-told-2 c = ?
+
+-- src/stretch.rt:102:17
+ended-requires-3 : tie.Need-ended-requires-3 Inv-loop μ-loop
+ended-requires-3 c κs = ?
+
+-- src/stretch.rt:102:17
+same-length-7 : tie.Need-same-length-7 Inv-loop μ-loop
+same-length-7 c = ?
+
+-- src/stretch.rt:102:17
+same-length-8 : tie.Need-same-length-8 Inv-loop μ-loop
+same-length-8 c = ?
+
+-- src/stretch.rt:102:17
+returns-4 : tie.Need-returns-4 Inv-loop μ-loop
+returns-4 c = ?
+
+-- src/stretch.rt:104:26
+enum-known-k : tie.Need-enum-known-k Inv-loop μ-loop
+enum-known-k c = ?
+
+-- src/stretch.rt:105:17
+ended-requires-4 : tie.Need-ended-requires-4 Inv-loop μ-loop
+ended-requires-4 c κs = ?
+
+-- src/stretch.rt:105:17
+same-length-9 : tie.Need-same-length-9 Inv-loop μ-loop
+same-length-9 c = ?
+
+-- src/stretch.rt:105:17
+same-length-10 : tie.Need-same-length-10 Inv-loop μ-loop
+same-length-10 c = ?
+
+-- src/stretch.rt:105:17
+returns-5 : tie.Need-returns-5 Inv-loop μ-loop
+returns-5 c = ?
+
+pub stretch-spec : {M : Type 1} → statement M
+stretch-spec =
+    tie.close
+    (tie.spec
+    Inv-loop
+    μ-loop
+    loop-holds
+    look-requires
+    enum-known-next
+    put-two-requires
+    pack-short-requires
+    mul-stack
+    slice-write-stack
+    sub-push
+    add-push
+    push-requires
+    loop-less
+    loop-again
+    enum-known-next-2
+    put-operator-requires
+    clear-requires
+    loop-less-2
+    loop-again-2
+    enum-known-next-3
+    put-operand-requires
+    pack-requires
+    mul-stack-2
+    slice-write-stack-2
+    push-requires-2
+    loop-less-3
+    loop-again-3
+    enum-known-a
+    put-operator-requires-2
+    sub-put-bytes
+    part-put-bytes-start
+    part-put-bytes-end
+    put-bytes-requires
+    sub-mask
+    mask-requires
+    loop-less-4
+    loop-again-4
+    enum-known-next-4
+    same-length
+    same-length-2
+    returns
+    enum-told
+    go-back-requires
+    ended-requires
+    same-length-3
+    same-length-4
+    returns-2
+    enum-known-p
+    put-operator-requires-3
+    finish-requires
+    ended-requires-2
+    same-length-5
+    same-length-6
+    returns-3
+    enum-told-2
+    ended-requires-3
+    same-length-7
+    same-length-8
+    returns-4
+    enum-known-k
+    ended-requires-4
+    same-length-9
+    same-length-10
+    returns-5)
