@@ -1,20 +1,17 @@
 -- The budget: a run's tokens are at most the budget, and another budget changes an accepted run only where it does not reach. Assumes nothing.
 use mathlib.Core.Path.{_≡_, refl, sym, ap, subst, _∙_}
-use mathlib.Core.Bool.{Bool, true, false, cond}
 use mathlib.Core.List.{List, [], _∷_}
 use Prim.Native.Nat.{ℕ, zero, suc, _+_, _-_, _<_, _≤_, zero-le}
 use native.Mathlib.Decide.{decLt}
 use native.Mathlib.Nat.{le-refl}
-use native.Mathlib.Numerals.{add-one}
 use native.Mathlib.Omega.{arith}
-use lib.Dec.{ltb, eqb}
-use lib.ListN.{length, drop}
+use lib.ListN.{length}
 use borrow.Author.Tests.{lt-ltb, le-ltb, ne-eqb}
 use Rattle.reading.specs.Rules.{Rules}
 use Rattle.reading.specs.Lists.{Lists}
 use Rattle.reading.specs.Tokens.{cut}
-use Rattle.reading.specs.Reading.{Shown, State, start, closed, Ending, back, ended, stopped, Accepted, Run, tokensBy, tokens, Step, halt, go, enter, refuse, onCut, onToken, resume, after, tokensOf, read, reading}
-use Rattle.reading.specs.StepLaws.{Begun, declines, goes, Goes, pushes, stems, clears, masks, enters, returns, ends, Stepped, spent, begun, token-is}
+use Rattle.reading.specs.Reading.{State, start, closed, Ending, back, ended, stopped, Accepted, Run, tokensBy, tokens, Step, halt, go, enter, refuse, onCut, onToken, resume, after, tokensOf, read, reading}
+use Rattle.reading.specs.StepLaws.{Begun, declines, goes, pushes, stems, clears, masks, enters, returns, ends, Stepped, spent, begun, token-is}
 use Rattle.reading.specs.RunLaws.{Led, Kept, kept}
 
 -- how many tokens a state has shown

@@ -2,7 +2,7 @@
 use mathlib.Core.Path.{_≡_, refl, sym, ap, subst, _∙_}
 use mathlib.Core.Bool.{Bool, true, false, cond}
 use mathlib.Core.List.{List, [], _∷_}
-use Prim.Native.Nat.{ℕ, zero, suc, _+_, _/_, _<_, _≤_}
+use Prim.Native.Nat.{ℕ, suc, _+_, _/_, _<_}
 use native.Mathlib.Omega.{arith}
 use lib.Dec.{eqb}
 use lib.ListN.{length}
@@ -12,7 +12,7 @@ use Rattle.reading.specs.Items.{Item, operand, bare, masked, Left, atMas
 use Rattle.reading.specs.Masks.{isStem, waiting, hasMask, declared, maskBytes, StemsFirst, ByNote}
 use Rattle.reading.specs.ValidLaws.{Valid, none, number-behind, stem-behind, clear-behind, mask-behind, Whole, open-ended, end-behind}
 use Rattle.reading.specs.declared.Kind.{Kind}
-use Rattle.reading.specs.declared.Kind.the-variants.{Stem, Clear, Mask, Call, Return, End, Unknown}
+use Rattle.reading.specs.declared.Kind.the-variants.{Stem, Clear}
 
 -- Until a mask has bytes, the length is 0 and the reading's hints and operands are the note's; from then on the length is the note's.
 data Tied (rules : Rules) (f : List Item) : Type 0 where

@@ -3,28 +3,27 @@ use mathlib.Core.Path.{_≡_, refl, sym, ap, subst, _∙_}
 use mathlib.Core.Bool.{Bool, true, false, cond}
 use mathlib.Core.List.{List, [], _∷_, _++_, append-assoc, append-nil}
 use Prim.Native.Nat.{ℕ, zero, suc, _+_, _-_, _<_, _≤_, zero-le}
-use native.Mathlib.Nat.{le-refl, add-zero, zero-add, suc-add, add-suc, add-comm, sub-add-cancel}
+use native.Mathlib.Nat.{add-zero, suc-add, add-suc}
 use native.Mathlib.Omega.{arith}
-use lib.Dec.{eqb}
-use lib.ListN.{length, take, drop, length-append, take-append-drop}
+use lib.ListN.{length, drop, length-append}
 use lib.Seq.{take-at, drop-at}
-use Rattle.number.specs.Answer.{Answer, accepted, refused}
-use Rattle.number.specs.Number.{Number, charstringRows, readBy}
+use Rattle.number.specs.Answer.{accepted}
+use Rattle.number.specs.Number.{charstringRows}
 use Rattle.number.specs.Written.{spelling}
 use Rattle.number.specs.RoundTrip.{Spellable, read-spelling, spelling-some}
 use Rattle.number.specs.declared.Operand.{Operand}
 use Rattle.reading.specs.Rules.{Rules}
 use Rattle.reading.specs.Lists.{Lists}
-use Rattle.reading.specs.Tokens.{Token, number, operator, Cut, token, lacking, cutBy, cut}
+use Rattle.reading.specs.Tokens.{number, token, cutBy, cut}
 use Rattle.reading.specs.CutLaws.{Cuttable}
 use Rattle.reading.specs.Items.{Item, operand, bare, masked, Left, pushed, cleared, counted, atMask, byKind, leaves, leftBy}
-use Rattle.reading.specs.Reading.{Entering, Shown, item, call, return, struck, State, start, Ending, back, ended, stopped, Run, Step, halt, go, enter, shows, onToken, after, tokensOf, read, reading, Accepted}
+use Rattle.reading.specs.Reading.{Shown, item, struck, State, start, back, ended, Run, go, shows, onToken, after, tokensOf, read, reading, Accepted}
 use Rattle.reading.specs.Flat.{operatorBytes, spelled, flat, Straight, isMask, shownBehind, behind, straightFrom, straight}
 use Rattle.reading.specs.StepLaws.{Goes, pushes, stems, clears, masks, ends, token-goes}
 use Rattle.reading.specs.ValidLaws.{Valid, none, number-behind, stem-behind, clear-behind, mask-behind, Whole, open-ended, end-behind}
 use Rattle.reading.specs.declared.Operator.{Operator}
 use Rattle.reading.specs.declared.Kind.{Kind}
-use Rattle.reading.specs.declared.Kind.the-variants.{Stem, Clear, Mask, Call, Return, End, Unknown}
+use Rattle.reading.specs.declared.Kind.the-variants.{Stem, Clear, Mask, End}
 
 -- ---- one item's bytes, and whatever follows
 
