@@ -131,7 +131,8 @@ module _ (t : Token) (rest : List ℕ) where
   fewer-escape [] e = no-token t rest e
   fewer-escape (b ∷ s) e = subst (λ (l : List ℕ). length l < suc (suc (length s))) (rest-is t _ rest s e) (omega arith)
 
-  fewer-byte : (b : ℕ) (s : List ℕ) (x : Bool) → cond x (escapedAt s) (token (operator (record { escaped = false; byte = b })) s) ≡ token t rest → length rest < suc (length s)
+  fewer-byte : (b : ℕ) (s : List ℕ) (x : Bool) → cond x (escapedAt s) (token (operator (record { escaped = false; byte = b })) s) ≡ token t rest
+      → length rest < suc (length s)
   fewer-byte b s true e = fewer-escape s e
   fewer-byte b s false e = subst (λ (l : List ℕ). length l < suc (length s)) (rest-is t _ rest s e) (omega arith)
 

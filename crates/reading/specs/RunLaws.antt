@@ -10,7 +10,8 @@ use Rattle.reading.specs.Lists.{Lists}
 use Rattle.reading.specs.Tokens.{number, operator}
 use Rattle.reading.specs.CutLaws.{cut-fewer}
 use Rattle.reading.specs.Items.{atMask}
-use Rattle.reading.specs.Reading.{State, start, Ending, back, ended, stopped, Run, Step, halt, go, enter, closed, onToken, resume, after, tokensOf, read, reading}
+use Rattle.reading.specs.Reading.{State, start, Ending, back, ended, stopped, Run, Step, halt, go}
+use Rattle.reading.specs.Reading.{enter, closed, onToken, resume, after, tokensOf, read, reading}
 use Rattle.reading.specs.StepLaws.{Begun, declines, goes, pushes, stems, clears, masks, enters, returns, ends, Stepped, spent, begun, token-is}
 
 -- ---- an invariant

@@ -26,7 +26,8 @@ use Rattle.reading.specs.Demands.{leads, Flat, empty, SameGlyph, reporte
 use Rattle.reading.specs.BudgetLaws.{count}
 use Rattle.reading.specs.AnswerLaws.{accepted-tokens, gate-open, Took, flattening-took}
 use Rattle.reading.specs.SizeLaws.{struck-fewer}
-use Rattle.reading.specs.ValidLaws.{Valid, none, number-behind, stem-behind, clear-behind, mask-behind, Whole, open-ended, end-behind, Ends, ByteLists, run-ends}
+use Rattle.reading.specs.ValidLaws.{Valid, none, number-behind, stem-behind, clear-behind, mask-behind}
+use Rattle.reading.specs.ValidLaws.{Whole, open-ended, end-behind, Ends, ByteLists, run-ends}
 use Rattle.reading.specs.StraightLaws.{whole-back, struck-shown, count-shown, Just, read-again}
 use Rattle.reading.specs.declared.Which.the-variants.{Local, Global}
 
@@ -58,7 +59,9 @@ module _ (rules : Rules) (lists : Lists) (budget : ℕ) (cs : List ℕ) (entries
   left-over = struck (reading rules lists budget cs .state .shown)
 
   pub whole : Whole rules left-over
-  whole = accepted-whole rules (reading rules lists budget cs .how) (reading rules lists budget cs .state) a (run-ends rules lists budget entries-bytes cs bytes)
+  whole =
+      let r = reading rules lists budget cs in
+      accepted-whole rules (r .how) (r .state) a (run-ends rules lists budget entries-bytes cs bytes)
 
   -- Read straight through, F shows exactly those items, in order, and consumes every byte.
   pub same-glyph : straight rules (flatOf (reading rules lists budget cs)) ≡ record { items = left-over; rest = [] }
@@ -215,6 +218,7 @@ module _ (rules : Rules) (cs globals locals : List ℕ) (budget : ℕ) (out : Li
         flat-items = no-calls rules lists budget cs entries bytes (took .accepted-run);
         again = λ out₁ h. flattened-again out₁ h
             ∙ ap (λ (n : ℕ). leaving (accepted (record { size = n; tokens = length items })) (flatOf run ++ drop n out₁)) (sym (took .size))
-            ∙ ap (λ (y : Straight). leaving (accepted (record { size = x .size; tokens = length (y .items) })) (flatOf run ++ drop (x .size) out₁)) (sym shown-is);
+            ∙ ap (λ (y : Straight). leaving (accepted (record { size = x .size; tokens = length (y .items) })) (flatOf run ++ drop (x .size) out₁))
+            (sym shown-is);
         fewer = subst (λ (y : Straight). length (y .items) ≤ x .tokens) (sym shown-is) enough;
       }

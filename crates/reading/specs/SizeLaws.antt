@@ -14,7 +14,8 @@ use Rattle.reading.specs.Tokens.{Bytes}
 use Rattle.reading.specs.Items.{Item, operand, bare, masked, Left, atMask, byKind, leaves, leftBy}
 use Rattle.reading.specs.Reading.{Shown, item, call, return, struck, State, Ending, back, ended, stopped, reading}
 use Rattle.reading.specs.Flat.{operatorBytes, spelled, flat}
-use Rattle.reading.specs.ValidLaws.{Valid, none, number-behind, stem-behind, clear-behind, mask-behind, Whole, open-ended, end-behind, Ends, ByteLists, run-ends}
+use Rattle.reading.specs.ValidLaws.{Valid, none, number-behind, stem-behind, clear-behind, mask-behind}
+use Rattle.reading.specs.ValidLaws.{Whole, open-ended, end-behind, Ends, ByteLists, run-ends}
 use Rattle.reading.specs.declared.Operator.{Operator}
 
 -- the longest mask, and the longest item
@@ -98,5 +99,6 @@ module _ (rules : Rules) (lists : Lists) (budget : ℕ) (entries : ByteLists lis
   flat-most cs h =
       let s = reading rules lists budget cs .state in
       let m = ends-most (reading rules lists budget cs .how) s (run-ends rules lists budget entries cs h) in
-      let k = mul-le-mul {n₁ = longestItem rules} {m₁ = length (struck (s .shown))} {n₂ = longestItem rules} {m₂ = length (s .shown)} (le-refl (longestItem rules)) (struck-fewer (s .shown)) in
+      let most = longestItem rules in
+      let k = mul-le-mul {n₁ = most} {m₁ = length (struck (s .shown))} {n₂ = most} {m₂ = length (s .shown)} (le-refl most) (struck-fewer (s .shown)) in
       omega arith

@@ -70,7 +70,8 @@ module _ (rules : Rules) where
       ∙ ap (behind rules _ f _) (c z)
       ∙ ap (λ (x : Straight). straightFrom rules fuel (x .items) (x .rest)) (not-mask k h p e f z)
 
-  mask-back : (f : List Item) (p : Operator) (m : List ℕ) → Cuttable p → rules .kind p ≡ Mask → length m ≡ atMask (leftBy rules f) .mask → OneBack f (masked p m)
+  mask-back : (f : List Item) (p : Operator) (m : List ℕ) → Cuttable p → rules .kind p ≡ Mask → length m ≡ atMask (leftBy rules f) .mask
+      → OneBack f (masked p m)
   unfolding spelled behind
   mask-back f p m c e n fuel z =
       let bytes = operatorBytes p ++ (m ++ z) in

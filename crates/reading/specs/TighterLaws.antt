@@ -14,7 +14,8 @@ use Rattle.number.specs.CallLaws.{exact-callee}
 use Rattle.number.specs.declared.Operand.{Operand}
 use Rattle.reading.specs.Rules.{Rules, plain, strict}
 use Rattle.reading.specs.Lists.{Lists}
-use Rattle.reading.specs.Reading.{State, start, Ending, back, ended, stopped, Run, Step, halt, go, enter, onToken, resume, after, tokensOf, read, reading, Accepted}
+use Rattle.reading.specs.Reading.{State, start, Ending, back, ended, stopped, Run, Step, halt, go}
+use Rattle.reading.specs.Reading.{enter, onToken, resume, after, tokensOf, read, reading, Accepted}
 use Rattle.reading.specs.StepLaws.{declines, goes, Goes, pushes, stems, clears, masks, enters, returns, ends, Stepped, spent, begun, token-is, token-goes}
 use Rattle.reading.specs.BudgetLaws.{never-accepted, Entered}
 use Rattle.reading.specs.declared.Operator.{Operator}
