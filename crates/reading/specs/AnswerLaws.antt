@@ -1,18 +1,14 @@
 -- What an answer says of its run, and what the laws of runs say of answers. Assumes nothing.
 use mathlib.Core.Path.{_≡_, refl, sym, ap, subst, _∙_}
-use mathlib.Core.Bool.{Bool, true, false, cond}
-use mathlib.Core.List.{List, [], _∷_, _++_}
-use Prim.Native.Nat.{ℕ, _+_, _<_, _≤_}
-use native.Mathlib.Omega.{arith}
-use lib.Dec.{leb}
+use mathlib.Core.List.{List, _++_}
+use Prim.Native.Nat.{ℕ, _<_, _≤_}
 use lib.ListN.{length, drop}
-use borrow.Author.Tests.{leb-true}
 use Rattle.number.specs.Answer.{Answer, accepted, refused, atToken, Outcome, leaving, Ready, into}
 use Rattle.number.specs.AnswerLaws.{refused-accepted, accepted-same, answer-as, Placed, into-accepted}
 use Rattle.index.specs.Formed.{Formation, yes, unread, emptied, bad, formation}
 use Rattle.reading.specs.Rules.{Rules}
 use Rattle.reading.specs.Lists.{listsOf}
-use Rattle.reading.specs.Reading.{State, Ending, back, ended, stopped, Accepted, Run, tokensBy, tokens, reading, original}
+use Rattle.reading.specs.Reading.{Ending, back, ended, stopped, Accepted, Run, tokensBy, tokens, reading, original}
 use Rattle.reading.specs.Answers.{Flattening, flatOf, flatReady, readyBy, outcome, listGate, flattening}
 use Rattle.reading.specs.BudgetLaws.{count, tokens-budget, budget-enough, budget-short}
 use Rattle.reading.specs.TighterLaws.{Tighter, tighter-reading}

@@ -5,10 +5,11 @@ use lib.ListN.{length}
 use Rattle.number.specs.Answer.{Answer, accepted, refused, alone, atToken, needingAt, mapped, Outcome, leaving, Ready, into}
 use Rattle.index.specs.Formed.{Formation, yes, unread, emptied, bad, formation}
 use Rattle.reading.specs.Rules.{Rules}
-use Rattle.reading.specs.Reading.{Ending, back, ended, stopped, Run, State, struck, tokens, original}
+use Rattle.reading.specs.Reading.{Ending, back, ended, stopped, Run, struck, tokens, original}
 use Rattle.reading.specs.Flat.{flat}
 use Rattle.reading.specs.declared.Refusal.{Refusal}
-use Rattle.reading.specs.declared.Refusal.the-variants.{BudgetSpent, BytesLacking, TooManyOperands, UnknownOperator, NoIndex, IndexNotLast, NoEntry, TooDeep, TooManyHints, Composite}
+use Rattle.reading.specs.declared.Refusal.the-variants.{BudgetSpent, BytesLacking, TooManyOperands, UnknownOperator}
+use Rattle.reading.specs.declared.Refusal.the-variants.{NoIndex, IndexNotLast, NoEntry, TooDeep, TooManyHints, Composite}
 use Rattle.reading.specs.declared.Flattened.{Flattened}
 use Rattle.reading.specs.declared.Flattened.the-variants.{Accepted, BadGlobals, BadLocals, Refused, NoRoom}
 

@@ -1,20 +1,18 @@
 -- The budget: a run's tokens are at most the budget, and another budget changes an accepted run only where it does not reach. Assumes nothing.
 use mathlib.Core.Path.{_≡_, refl, sym, ap, subst, _∙_}
-use mathlib.Core.Bool.{Bool, true, false, cond}
 use mathlib.Core.List.{List, [], _∷_}
 use Prim.Native.Nat.{ℕ, zero, suc, _+_, _-_, _<_, _≤_, zero-le}
 use native.Mathlib.Decide.{decLt}
 use native.Mathlib.Nat.{le-refl}
-use native.Mathlib.Numerals.{add-one}
 use native.Mathlib.Omega.{arith}
-use lib.Dec.{ltb, eqb}
-use lib.ListN.{length, drop}
+use lib.ListN.{length}
 use borrow.Author.Tests.{lt-ltb, le-ltb, ne-eqb}
 use Rattle.reading.specs.Rules.{Rules}
 use Rattle.reading.specs.Lists.{Lists}
 use Rattle.reading.specs.Tokens.{cut}
-use Rattle.reading.specs.Reading.{Shown, State, start, closed, Ending, back, ended, stopped, Accepted, Run, tokensBy, tokens, Step, halt, go, enter, refuse, onCut, onToken, resume, after, tokensOf, read, reading}
-use Rattle.reading.specs.StepLaws.{Begun, declines, goes, Goes, pushes, stems, clears, masks, enters, returns, ends, Stepped, spent, begun, token-is}
+use Rattle.reading.specs.Reading.{State, start, closed, Ending, back, ended, stopped, Accepted, Run, tokensBy, tokens}
+use Rattle.reading.specs.Reading.{Step, halt, go, enter, refuse, onCut, onToken, resume, after, tokensOf, read, reading}
+use Rattle.reading.specs.StepLaws.{Begun, declines, goes, pushes, stems, clears, masks, enters, returns, ends, Stepped, spent, begun, token-is}
 use Rattle.reading.specs.RunLaws.{Led, Kept, kept}
 
 -- how many tokens a state has shown
@@ -113,11 +111,9 @@ module _ (b : ℕ) (on on′ : State → Run) (f : (t : State) → Beside b t (o
   came-back : (t : State) (r r′ : Run) → Beside b t r r′ → r .how ≡ back → Beside b t (on (closed (r .state))) (resume on′ r′ (r′ .how))
   unfolding resume
   came-back t r r′ p h =
-      let q = f (closed (r .state)) in
-      let a : Accepted (r .how) = subst Accepted (sym h) tt in
       record {
         grows = let g = p .grows in let g′ = q .grows in omega arith;
-        same = λ c l. let g = q .grows in ap (λ (x : Run). resume on′ x (x .how)) (p .same a (omega arith)) ∙ ap (λ (e : Ending). resume on′ r e) h ∙ q .same c l;
+        same = λ c l. let g = q .grows in went-on (p .same a (omega arith)) ∙ q .same c l;
         less = λ c l m. by-reach c l m (decLt b (count (r .state)));
       }
     where
@@ -127,14 +123,16 @@ module _ (b : ℕ) (on on′ : State → Run) (f : (t : State) → Beside b t (o
       a : Accepted (r .how)
       a = subst Accepted (sym h) tt
 
+      went-on : r′ ≡ r → resume on′ r′ (r′ .how) ≡ on′ (closed (r .state))
+      went-on e = ap (λ (x : Run). resume on′ x (x .how)) e ∙ ap (λ (e : Ending). resume on′ r e) h
+
       by-reach : Accepted (on (closed (r .state)) .how) → count t ≤ b → b < count (on (closed (r .state)) .state) → Dec (b < count (r .state))
           → (resume on′ r′ (r′ .how) .how ≡ stopped 3) × (count (resume on′ r′ (r′ .how) .state) ≡ b)
       by-reach c l m (yes d) =
           let x = p .less a l d in
           subst (λ (y : Run). (y .how ≡ stopped 3) × (count (y .state) ≡ b)) (sym (stopped-stays r′ (x .0))) x
       by-reach c l m (no d) =
-          let e : resume on′ r′ (r′ .how) ≡ on′ (closed (r .state)) = ap (λ (x : Run). resume on′ x (x .how)) (p .same a (omega arith)) ∙ ap (λ (e : Ending). resume on′ r e) h in
-          subst (λ (y : Run). (y .how ≡ stopped 3) × (count (y .state) ≡ b)) (sym e) (q .less c (omega arith) m)
+          subst (λ (y : Run). (y .how ≡ stopped 3) × (count (y .state) ≡ b)) (sym (went-on (p .same a (omega arith)))) (q .less c (omega arith) m)
 
   resumed-beside : (t : State) (r r′ : Run) → Beside b t r r′ → (e : Ending) → r .how ≡ e → Beside b t (resume on r e) (resume on′ r′ (r′ .how))
   unfolding resume
@@ -192,8 +190,11 @@ module _ (rules : Rules) (lists : Lists) (b b′ : ℕ) where
     step-spent n h = rw (le-ltb (count s) n h)
 
     module _ (on on′ below below′ : List ℕ → State → Run) (f : Besides b′ on on′) (g : (levels ≡ 0 → ⊥) → Besides b′ below below′) where
-      abbrev Goal : Type 0
-      Goal = Beside b′ s (after on below (onToken rules lists b levels at bytes s)) (after on′ below′ (onToken rules lists b′ levels at bytes s))
+      abbrev here : ℕ → Step
+      here n = onToken rules lists n levels at bytes s
+
+      abbrev Both : Step → Step → Type 0
+      Both x y = Beside b′ s (after on below x) (after on′ below′ y)
 
       -- what is shown grows, whatever the budget
       grows-after : (x : Step) → Grown s x → Entered levels x
@@ -205,26 +206,26 @@ module _ (rules : Rules) (lists : Lists) (b b′ : ℕ) where
           let p = resumed-beside b′ (on rest) (on′ rest) (f rest) t (below body t) (below′ body t) (g n body t) (below body t .how) refl .grows in
           (omega arith, λ c. omega arith)
 
-      by-step : Stepped rules lists b levels at bytes s (onToken rules lists b levels at bytes s) → Goal
+      by-step : Stepped rules lists b levels at bytes s (here b) → Both (here b) (here b′)
       unfolding after
       by-step v = go-by (decLt (count s) b) (decLt (count s) b′)
         where
-          seen : (y : Step) → y ≡ onToken rules lists b levels at bytes s → Stepped rules lists b levels at bytes s y → count s < b → Grown s y × Entered levels y
-          seen y e (spent l) h = absurd (omega arith)
-          seen y e (begun z l w) h = grown-begun z w
+          seen : (y : Step) → Stepped rules lists b levels at bytes s y → count s < b → Grown s y × Entered levels y
+          seen y (spent l) h = absurd (omega arith)
+          seen y (begun z l w) h = grown-begun z w
 
-          go-by : Dec (count s < b) → Dec (count s < b′) → Goal
+          go-by : Dec (count s < b) → Dec (count s < b′) → Both (here b) (here b′)
           go-by (yes h) (yes h′) =
-              let l = seen _ refl v h in
-              subst (λ (y : Step). Beside b′ s (after on below (onToken rules lists b levels at bytes s)) (after on′ below′ y)) (step-begun b h ∙ sym (step-begun b′ h′))
-              (both-begin b′ s levels on on′ below below′ f g h′ (onToken rules lists b levels at bytes s) (l .0) (l .1))
+              let l = seen (here b) v h in
+              subst (λ (y : Step). Both (here b) y) (step-begun b h ∙ sym (step-begun b′ h′))
+              (both-begin b′ s levels on on′ below below′ f g h′ (here b) (l .0) (l .1))
           go-by (yes h) (no h′) =
-              let l = seen _ refl v h in
-              let m = grows-after (onToken rules lists b levels at bytes s) (l .0) (l .1) in
-              subst (λ (y : Step). Beside b′ s (after on below (onToken rules lists b levels at bytes s)) (after on′ below′ y)) (sym (step-spent b′ (omega arith)))
-              (not-begun b′ s (after on below (onToken rules lists b levels at bytes s)) (m .0) (m .1) (omega arith))
+              let l = seen (here b) v h in
+              let m = grows-after (here b) (l .0) (l .1) in
+              subst (λ (y : Step). Both (here b) y) (sym (step-spent b′ (omega arith)))
+              (not-begun b′ s (after on below (here b)) (m .0) (m .1) (omega arith))
           go-by (no h) d =
-              subst (λ (y : Step). Beside b′ s (after on below y) (after on′ below′ (onToken rules lists b′ levels at bytes s))) (sym (step-spent b (omega arith)))
+              subst (λ (y : Step). Both y (here b′)) (sym (step-spent b (omega arith)))
               (record { grows = le-refl (count s); same = λ c. absurd c; less = λ c. absurd c })
 
   ran-out : (s : State) → Beside b′ s (record { how = back; state = s }) (record { how = back; state = s })

@@ -1,19 +1,18 @@
 -- The laws of cutting tokens. Assumes nothing.
-use mathlib.Core.Path.{_≡_, refl, sym, ap, subst, _∙_}
+use mathlib.Core.Path.{_≡_, refl, sym, subst, _∙_}
 use mathlib.Core.Bool.{Bool, true, false, cond}
 use mathlib.Core.List.{List, [], _∷_, _++_}
-use Prim.Native.Nat.{ℕ, zero, suc, _+_, _-_, _<_, _≤_, zero-le}
+use Prim.Native.Nat.{ℕ, suc, _+_, _<_}
 use native.Mathlib.Omega.{arith}
 use lib.Dec.{eqb, ltb, lit<}
-use lib.ListN.{length, getD, drop, length-drop}
+use lib.ListN.{length, drop, length-drop}
 use lib.Seq.{getD-drop}
-use borrow.Author.Tests.{eq-eqb, ne-eqb, eqb-true, eqb-false}
+use borrow.Author.Tests.{eqb-true}
 use Rattle.number.specs.Answer.{Values, Answer, accepted, refused, alone}
 use Rattle.number.specs.Number.{Number, charstringRows, Found, row, noRow, rowOf, numberBy, readBy}
 use Rattle.number.specs.NumberLaws.{read-some}
 use Rattle.number.specs.RoundTrip.{read-width, read-inside, Width, one, two, three, five, Spellable, read-spellable}
-use Rattle.number.specs.declared.Operand.{Operand}
-use Rattle.reading.specs.Tokens.{Bytes, Token, number, operator, Cut, token, lacking, escapedAt, operatorAt, cutBy, cut}
+use Rattle.reading.specs.Tokens.{Bytes, Token, number, operator, token, lacking, escapedAt, operatorAt, cutBy, cut}
 use Rattle.reading.specs.Flat.{operatorBytes}
 use Rattle.reading.specs.declared.Operator.{Operator}
 
@@ -132,7 +131,8 @@ module _ (t : Token) (rest : List ℕ) where
   fewer-escape [] e = no-token t rest e
   fewer-escape (b ∷ s) e = subst (λ (l : List ℕ). length l < suc (suc (length s))) (rest-is t _ rest s e) (omega arith)
 
-  fewer-byte : (b : ℕ) (s : List ℕ) (x : Bool) → cond x (escapedAt s) (token (operator (record { escaped = false; byte = b })) s) ≡ token t rest → length rest < suc (length s)
+  fewer-byte : (b : ℕ) (s : List ℕ) (x : Bool) → cond x (escapedAt s) (token (operator (record { escaped = false; byte = b })) s) ≡ token t rest
+      → length rest < suc (length s)
   fewer-byte b s true e = fewer-escape s e
   fewer-byte b s false e = subst (λ (l : List ℕ). length l < suc (length s)) (rest-is t _ rest s e) (omega arith)
 

@@ -1,5 +1,5 @@
 -- The demands, proved: each theorem has the type that Demands.antt states. Assumes nothing.
-use mathlib.Core.Path.{_≡_, sym, ap, subst, _∙_}
+use mathlib.Core.Path.{sym, ap, subst, _∙_}
 use mathlib.Core.List.{List}
 use Rattle.reading.specs.Rules.{plain, strict}
 use Rattle.reading.specs.Items.{Item}

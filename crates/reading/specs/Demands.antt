@@ -5,12 +5,12 @@ use mathlib.Core.Path.{_≡_}
 use mathlib.Core.Bool.{Bool, true, false}
 use mathlib.Core.List.{List, [], _∷_, _++_}
 use lib.ListN.{length, take, drop, replicate}
-use Rattle.number.specs.Answer.{Answer, accepted, refused, atToken, leaving}
+use Rattle.number.specs.Answer.{accepted, refused, atToken, leaving}
 use Rattle.reading.specs.Rules.{Rules, plain, strict}
 use Rattle.reading.specs.Tokens.{Bytes}
 use Rattle.reading.specs.Items.{Item, operand, bare, masked}
 use Rattle.reading.specs.Reading.{struck, original}
-use Rattle.reading.specs.Flat.{Straight, straight}
+use Rattle.reading.specs.Flat.{straight}
 use Rattle.reading.specs.Answers.{Flattening, flattening}
 use Rattle.reading.specs.Masks.{StemsFirst, ByNote}
 use Rattle.reading.specs.declared.Kind.{Kind}

@@ -1,12 +1,12 @@
 -- The flat string: its bytes, and its reading straight through.
-use Prim.Native.Nat.{ℕ, zero, suc, _+_, _-_}
+use Prim.Native.Nat.{ℕ, zero, suc}
 use mathlib.Core.Bool.{Bool, true, false, cond}
 use mathlib.Core.List.{List, [], _∷_, _++_}
 use lib.ListN.{length, take, drop}
 use Rattle.number.specs.Number.{charstringRows}
 use Rattle.number.specs.Written.{spelling}
 use Rattle.reading.specs.Rules.{Rules}
-use Rattle.reading.specs.Tokens.{Token, number, operator, Cut, token, lacking, cut}
+use Rattle.reading.specs.Tokens.{number, operator, Cut, token, lacking, cut}
 use Rattle.reading.specs.Items.{Item, operand, bare, masked, atMask, leftBy}
 use Rattle.reading.specs.declared.Operator.{Operator}
 use Rattle.reading.specs.declared.Kind.{Kind}

@@ -2,7 +2,7 @@
 use mathlib.Core.Path.{_≡_, refl, sym, ap, subst, _∙_}
 use mathlib.Core.Bool.{Bool, true, false, cond}
 use mathlib.Core.List.{List, [], _∷_}
-use Prim.Native.Nat.{ℕ, zero, suc, _+_, _/_, _<_, _≤_}
+use Prim.Native.Nat.{ℕ, suc, _+_, _/_, _<_}
 use native.Mathlib.Omega.{arith}
 use lib.Dec.{eqb}
 use lib.ListN.{length}
@@ -12,11 +12,12 @@ use Rattle.reading.specs.Items.{Item, operand, bare, masked, Left, atMas
 use Rattle.reading.specs.Masks.{isStem, waiting, hasMask, declared, maskBytes, StemsFirst, ByNote}
 use Rattle.reading.specs.ValidLaws.{Valid, none, number-behind, stem-behind, clear-behind, mask-behind, Whole, open-ended, end-behind}
 use Rattle.reading.specs.declared.Kind.{Kind}
-use Rattle.reading.specs.declared.Kind.the-variants.{Stem, Clear, Mask, Call, Return, End, Unknown}
+use Rattle.reading.specs.declared.Kind.the-variants.{Stem, Clear}
 
 -- Until a mask has bytes, the length is 0 and the reading's hints and operands are the note's; from then on the length is the note's.
 data Tied (rules : Rules) (f : List Item) : Type 0 where
-  before : hasMask f ≡ false → leftBy rules f .mask ≡ 0 → leftBy rules f .hints ≡ declared rules f → length (leftBy rules f .operands) ≡ waiting f → Tied rules f
+  before : hasMask f ≡ false → leftBy rules f .mask ≡ 0 → leftBy rules f .hints ≡ declared rules f
+      → length (leftBy rules f .operands) ≡ waiting f → Tied rules f
   behind : hasMask f ≡ true → 0 < leftBy rules f .mask → leftBy rules f .mask ≡ (declared rules f + 7) / 8 → Tied rules f
 
 module _ (rules : Rules) where
@@ -48,7 +49,10 @@ module _ (rules : Rules) where
       where
         hints-are : x .hints + length (x .operands) / 2 ≡ declared rules f + waiting f / 2
         hints-are = rw (n, k)
-    tied-stem p e first (behind h q m) = let z = sym (first (ap isStem e)) ∙ h in let w : _≡_ {A = ℕ} 0 1 = ap (λ (b : Bool). cond b 1 0) z in absurd (omega arith)
+    tied-stem p e first (behind h q m) =
+        let z = sym (first (ap isStem e)) ∙ h in
+        let w : _≡_ {A = ℕ} 0 1 = ap (λ (b : Bool). cond b 1 0) z in
+        absurd (omega arith)
 
     tied-clear : (p : _) → rules .kind p ≡ Clear → Tied rules f → Tied rules (bare p ∷ f)
     unfolding leftBy leaves byKind hasMask declared waiting

@@ -10,7 +10,7 @@ use Rattle.number.specs.Call.{callee}
 use Rattle.number.specs.declared.Operand.{Operand}
 use Rattle.reading.specs.Rules.{Rules}
 use Rattle.reading.specs.Lists.{Lists, Subrs, Entry, present, absent, listed, listsOf}
-use Rattle.reading.specs.Tokens.{Token, number, operator, Cut, token, lacking, cut}
+use Rattle.reading.specs.Tokens.{number, operator, Cut, token, lacking, cut}
 use Rattle.reading.specs.Items.{Item, operand, bare, masked, Left, nothing, pushed, popped, cleared, counted, atMask}
 use Rattle.reading.specs.declared.Operator.{Operator}
 use Rattle.reading.specs.declared.Which.{Which}

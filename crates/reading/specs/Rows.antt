@@ -1,7 +1,7 @@
 -- Document 01's starred rows ("Flattenings to reproduce"), proved as one list, and a second list of ours for what those rows miss.
 use mathlib.Core.Path.{_≡_, refl}
 use mathlib.Core.List.{List, [], _∷_, _++_}
-use mathlib.Core.Bool.{Bool, true, false, cond}
+use mathlib.Core.Bool.{Bool, false}
 use Prim.Native.Nat.{ℕ}
 use lib.ListN.{length, drop, replicate}
 use Rattle.number.specs.Answer.{Values, alone, atToken, needingAt, Answer, accepted, refused, Outcome, leaving, into}
@@ -15,7 +15,8 @@ use Rattle.index.specs.Formed.{entriesFrom, formedBy, formation}
 use Rattle.reading.specs.Rules.{Rules, plain, strict, byteKind, escapedKind, type2}
 use Rattle.reading.specs.Lists.{absent as absent-entry, countIn, entryBy, subrsOf, listsOf}
 use Rattle.reading.specs.Tokens.{escapedAt, operatorAt, cutBy, cut}
-use Rattle.reading.specs.Reading.{struck, tokensBy, endsInOperand, admitted, onNumber, onStem, onMask, onEnd, onEntry, onIndex, onCall, onOperator, onCut, onToken, resume, after, tokensOf, read, reading}
+use Rattle.reading.specs.Reading.{struck, tokensBy, endsInOperand, admitted, onNumber, onStem, onMask, onEnd, onEntry}
+use Rattle.reading.specs.Reading.{onIndex, onCall, onOperator, onCut, onToken, resume, after, tokensOf, read, reading}
 use Rattle.reading.specs.Flat.{spelled, flat}
 use Rattle.reading.specs.Answers.{Flattening, readyBy, outcome, listGate, flattening}
 
@@ -155,10 +156,12 @@ competing =
 -- one theorem over the reading's definition for all three lists
 pub rows-hold : All starred × All more × All competing
 unfolding expectedBy into readyBy outcome listGate flattening
-  beAt bytesOf signed unsigned integerRows rowsOf rowOf valueBy numberBy readBy formBy spell bytes bytesBy spelling bitLength counts callIndex entryOf biased callee
-  offset byLast bySize byCount extent absent placeBy placeIn place partBytes part entriesFrom formedBy formation
-  byteKind escapedKind type2 countIn entryBy subrsOf listsOf escapedAt operatorAt cutBy cut
-  struck tokensBy endsInOperand admitted onNumber onStem onMask onEnd onEntry onIndex onCall onOperator onCut onToken resume after tokensOf read reading spelled flat
+    beAt bytesOf signed unsigned integerRows rowsOf rowOf valueBy numberBy readBy formBy spell bytes bytesBy spelling
+    bitLength counts callIndex entryOf biased callee
+    offset byLast bySize byCount extent absent placeBy placeIn place partBytes part entriesFrom formedBy formation
+    byteKind escapedKind type2 countIn entryBy subrsOf listsOf escapedAt operatorAt cutBy cut
+    struck tokensBy endsInOperand admitted onNumber onStem onMask onEnd onEntry onIndex onCall onOperator onCut onToken
+    resume after tokensOf read reading spelled flat
 rows-hold = (
   (refl, (refl, (refl, (refl, (refl, (refl, (refl, (refl, (refl, (refl, (refl, (refl, (refl, (refl, (refl, tt))))))))))))))),
   (refl, (refl, (refl, (refl, (refl, (refl, (refl, (refl, (refl, (refl, tt)))))))))),

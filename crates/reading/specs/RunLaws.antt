@@ -1,18 +1,18 @@
 -- What holds along a run: one principle for every invariant, and that fuel is never seen. Assumes nothing.
-use mathlib.Core.Path.{_≡_, refl, sym, ap, subst, _∙_}
-use mathlib.Core.Bool.{Bool, true, false, cond}
+use mathlib.Core.Path.{_≡_, refl, subst}
 use mathlib.Core.List.{List, [], _∷_}
 use Prim.Native.Nat.{ℕ, zero, suc, _+_, _-_, _<_, _≤_}
 use native.Mathlib.Nat.{zero-add, suc-add}
 use native.Mathlib.Omega.{arith}
-use lib.ListN.{length, take, drop, length-drop}
+use lib.ListN.{length, length-drop}
 use Rattle.reading.specs.Rules.{Rules}
 use Rattle.reading.specs.Lists.{Lists}
-use Rattle.reading.specs.Tokens.{Token, number, operator, Cut, token, lacking, cut}
+use Rattle.reading.specs.Tokens.{number, operator}
 use Rattle.reading.specs.CutLaws.{cut-fewer}
 use Rattle.reading.specs.Items.{atMask}
-use Rattle.reading.specs.Reading.{Entering, Shown, State, start, Ending, back, ended, stopped, Run, Step, halt, go, enter, closed, onToken, resume, after, tokensOf, read, reading}
-use Rattle.reading.specs.StepLaws.{Begun, declines, goes, Goes, pushes, stems, clears, masks, enters, returns, ends, Stepped, spent, begun, token-is}
+use Rattle.reading.specs.Reading.{State, start, Ending, back, ended, stopped, Run, Step, halt, go}
+use Rattle.reading.specs.Reading.{enter, closed, onToken, resume, after, tokensOf, read, reading}
+use Rattle.reading.specs.StepLaws.{Begun, declines, goes, pushes, stems, clears, masks, enters, returns, ends, Stepped, spent, begun, token-is}
 
 -- ---- an invariant
 

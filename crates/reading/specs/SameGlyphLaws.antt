@@ -1,8 +1,8 @@
 -- That the flat string of an accepted flattening is the same glyph, over any rules, and comes back when it is flattened again. Assumes nothing.
 use mathlib.Core.Path.{_≡_, refl, sym, ap, subst, _∙_}
-use mathlib.Core.Bool.{Bool, true, false, cond}
+use mathlib.Core.Bool.{cond}
 use mathlib.Core.List.{List, [], _∷_, _++_}
-use Prim.Native.Nat.{ℕ, zero, suc, _+_, _-_, _<_, _≤_}
+use Prim.Native.Nat.{ℕ, zero, suc, _≤_}
 use native.Mathlib.Nat.{zero-add}
 use native.Mathlib.Omega.{arith}
 use lib.ListN.{length, getD, take, drop, replicate, length-replicate}
@@ -12,13 +12,13 @@ use lib.Dec.{eqb, lit<}
 use Rattle.number.specs.Answer.{Answer, accepted, refused, Outcome, leaving, into}
 use Rattle.number.specs.AnswerLaws.{into-fits}
 use Rattle.index.specs.Index.{Place, extent, byCount, place, bytesBy, part}
-use Rattle.index.specs.Formed.{Formation, yes, unread, emptied, bad, entriesFrom, formedBy, formation}
+use Rattle.index.specs.Formed.{yes, emptied, entriesFrom, formedBy, formation}
 use Rattle.number.specs.BigEndian.{beAt}
 use Rattle.reading.specs.Rules.{Rules}
-use Rattle.reading.specs.Lists.{Lists, Entry, present, absent, entryBy, subrsOf, listsOf}
+use Rattle.reading.specs.Lists.{Lists, present, entryBy, subrsOf, listsOf}
 use Rattle.reading.specs.Tokens.{Bytes}
 use Rattle.reading.specs.CutLaws.{bytes-drop}
-use Rattle.reading.specs.Items.{Item, operand, bare, masked}
+use Rattle.reading.specs.Items.{Item}
 use Rattle.reading.specs.Reading.{Shown, struck, State, Ending, back, ended, stopped, Accepted, Run, tokensBy, tokens, reading, original}
 use Rattle.reading.specs.Flat.{flat, Straight, straight}
 use Rattle.reading.specs.Answers.{Flattening, flatOf, flatReady, readyBy, outcome, flattening}
@@ -26,13 +26,10 @@ use Rattle.reading.specs.Demands.{leads, Flat, empty, SameGlyph, reporte
 use Rattle.reading.specs.BudgetLaws.{count}
 use Rattle.reading.specs.AnswerLaws.{accepted-tokens, gate-open, Took, flattening-took}
 use Rattle.reading.specs.SizeLaws.{struck-fewer}
-use Rattle.reading.specs.ValidLaws.{Valid, none, number-behind, stem-behind, clear-behind, mask-behind, Whole, open-ended, end-behind, Ends, ByteLists, run-ends}
-use Rattle.reading.specs.StraightLaws.{whole-back, shownOf, struck-shown, count-shown, Just, read-again}
-use Rattle.reading.specs.declared.Operator.{Operator}
-use Rattle.reading.specs.declared.Which.{Which}
+use Rattle.reading.specs.ValidLaws.{Valid, none, number-behind, stem-behind, clear-behind, mask-behind}
+use Rattle.reading.specs.ValidLaws.{Whole, open-ended, end-behind, Ends, ByteLists, run-ends}
+use Rattle.reading.specs.StraightLaws.{whole-back, struck-shown, count-shown, Just, read-again}
 use Rattle.reading.specs.declared.Which.the-variants.{Local, Global}
-use Rattle.reading.specs.declared.Kind.{Kind}
-use Rattle.reading.specs.declared.Kind.the-variants.{Stem, Clear, Mask, Call, Return, End, Unknown}
 
 -- ---- no call and no return
 
@@ -62,7 +59,9 @@ module _ (rules : Rules) (lists : Lists) (budget : ℕ) (cs : List ℕ) (entries
   left-over = struck (reading rules lists budget cs .state .shown)
 
   pub whole : Whole rules left-over
-  whole = accepted-whole rules (reading rules lists budget cs .how) (reading rules lists budget cs .state) a (run-ends rules lists budget entries-bytes cs bytes)
+  whole =
+      let r = reading rules lists budget cs in
+      accepted-whole rules (r .how) (r .state) a (run-ends rules lists budget entries-bytes cs bytes)
 
   -- Read straight through, F shows exactly those items, in order, and consumes every byte.
   pub same-glyph : straight rules (flatOf (reading rules lists budget cs)) ≡ record { items = left-over; rest = [] }
@@ -219,6 +218,7 @@ module _ (rules : Rules) (cs globals locals : List ℕ) (budget : ℕ) (out : Li
         flat-items = no-calls rules lists budget cs entries bytes (took .accepted-run);
         again = λ out₁ h. flattened-again out₁ h
             ∙ ap (λ (n : ℕ). leaving (accepted (record { size = n; tokens = length items })) (flatOf run ++ drop n out₁)) (sym (took .size))
-            ∙ ap (λ (y : Straight). leaving (accepted (record { size = x .size; tokens = length (y .items) })) (flatOf run ++ drop (x .size) out₁)) (sym shown-is);
+            ∙ ap (λ (y : Straight). leaving (accepted (record { size = x .size; tokens = length (y .items) })) (flatOf run ++ drop (x .size) out₁))
+            (sym shown-is);
         fewer = subst (λ (y : Straight). length (y .items) ≤ x .tokens) (sym shown-is) enough;
       }

@@ -1,24 +1,22 @@
 -- How long a flat string can be: so many bytes a token at the most. Assumes nothing.
-use mathlib.Core.Path.{_≡_, refl, sym, ap, subst, _∙_}
+use mathlib.Core.Path.{_≡_}
 use mathlib.Core.Bool.{Bool, true, false, cond}
-use mathlib.Core.List.{List, [], _∷_, _++_}
-use Prim.Native.Nat.{ℕ, zero, suc, _+_, _-_, _*_, _/_, _<_, _≤_, zero-le}
+use mathlib.Core.List.{List, [], _∷_}
+use Prim.Native.Nat.{ℕ, suc, _+_, _*_, _/_, _≤_, zero-le}
 use native.Mathlib.Nat.{le-refl, mul-le-mul, mul-suc}
 use native.Mathlib.Omega.{arith}
 use lib.Dec.{eqb}
-use lib.ListN.{length, drop, length-append, length-drop}
-use Rattle.number.specs.Number.{charstringRows}
+use lib.ListN.{length, length-append, length-drop}
 use Rattle.number.specs.RoundTrip.{spelling-most}
 use Rattle.reading.specs.Rules.{Rules}
 use Rattle.reading.specs.Lists.{Lists}
 use Rattle.reading.specs.Tokens.{Bytes}
-use Rattle.reading.specs.Items.{Item, operand, bare, masked, Left, counted, atMask, byKind, leaves, leftBy}
+use Rattle.reading.specs.Items.{Item, operand, bare, masked, Left, atMask, byKind, leaves, leftBy}
 use Rattle.reading.specs.Reading.{Shown, item, call, return, struck, State, Ending, back, ended, stopped, reading}
 use Rattle.reading.specs.Flat.{operatorBytes, spelled, flat}
-use Rattle.reading.specs.ValidLaws.{Valid, none, number-behind, stem-behind, clear-behind, mask-behind, Whole, open-ended, end-behind, Ends, ByteLists, run-ends}
+use Rattle.reading.specs.ValidLaws.{Valid, none, number-behind, stem-behind, clear-behind, mask-behind}
+use Rattle.reading.specs.ValidLaws.{Whole, open-ended, end-behind, Ends, ByteLists, run-ends}
 use Rattle.reading.specs.declared.Operator.{Operator}
-use Rattle.reading.specs.declared.Kind.{Kind}
-use Rattle.reading.specs.declared.Kind.the-variants.{Stem, Clear, Mask, Call, Return, End, Unknown}
 
 -- the longest mask, and the longest item
 abbrev pub longestMask : Rules → ℕ
@@ -101,5 +99,6 @@ module _ (rules : Rules) (lists : Lists) (budget : ℕ) (entries : ByteLists lis
   flat-most cs h =
       let s = reading rules lists budget cs .state in
       let m = ends-most (reading rules lists budget cs .how) s (run-ends rules lists budget entries cs h) in
-      let k = mul-le-mul {n₁ = longestItem rules} {m₁ = length (struck (s .shown))} {n₂ = longestItem rules} {m₂ = length (s .shown)} (le-refl (longestItem rules)) (struck-fewer (s .shown)) in
+      let most = longestItem rules in
+      let k = mul-le-mul {n₁ = most} {m₁ = length (struck (s .shown))} {n₂ = most} {m₂ = length (s .shown)} (le-refl most) (struck-fewer (s .shown)) in
       omega arith

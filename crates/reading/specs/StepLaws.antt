@@ -1,9 +1,9 @@
 -- One token, seen from its outcome: all that it can lead to, with what holds there. Laws of the reading go by these cases, and not by the
 -- text of `onToken`. Assumes nothing.
-use mathlib.Core.Path.{_≡_, refl, sym, ap, subst, _∙_}
+use mathlib.Core.Path.{_≡_, refl, sym, ap, _∙_}
 use mathlib.Core.Bool.{Bool, true, false, cond}
 use mathlib.Core.List.{List, [], _∷_}
-use Prim.Native.Nat.{ℕ, zero, suc, _+_, _-_, _<_, _≤_}
+use Prim.Native.Nat.{ℕ, _<_, _≤_}
 use native.Mathlib.Omega.{arith}
 use mathlib.Core.Logic.{_⊎_, inl, inr}
 use lib.Dec.{eqb, leb, ltb}
@@ -14,10 +14,11 @@ use Rattle.number.specs.Call.{callee}
 use Rattle.number.specs.CallLaws.{callee-refusal}
 use Rattle.number.specs.declared.Operand.{Operand}
 use Rattle.reading.specs.Rules.{Rules}
-use Rattle.reading.specs.Lists.{Lists, Subrs, Entry, present, absent, listed}
-use Rattle.reading.specs.Tokens.{Token, number, operator, Cut, token, lacking, cut}
-use Rattle.reading.specs.Items.{Item, operand, bare, masked, Left, pushed, popped, cleared, counted, atMask}
-use Rattle.reading.specs.Reading.{Entering, Shown, item, call, return, struck, State, Ending, back, ended, stopped, Step, halt, go, enter, refuse, shows, entered, returned, endsInOperand, admitted, onNumber, onStem, onMask, onEnd, onEntry, onIndex, onCall, onOperator, onCut, onToken}
+use Rattle.reading.specs.Lists.{Lists, Entry, present, absent, listed}
+use Rattle.reading.specs.Tokens.{number, operator, Cut, token, lacking, cut}
+use Rattle.reading.specs.Items.{operand, bare, masked, pushed, cleared, counted, atMask}
+use Rattle.reading.specs.Reading.{Entering, struck, State, back, ended, Step, halt, go, enter, refuse, shows, entered, returned, endsInOperand}
+use Rattle.reading.specs.Reading.{admitted, onNumber, onStem, onMask, onEnd, onEntry, onIndex, onCall, onOperator, onCut, onToken}
 use Rattle.reading.specs.declared.Operator.{Operator}
 use Rattle.reading.specs.declared.Which.{Which}
 use Rattle.reading.specs.declared.Kind.{Kind}
@@ -71,18 +72,24 @@ module _ (rules : Rules) (lists : Lists) (levels at : ℕ) (bytes : List ℕ) (s
   module _ (rest : List ℕ) where
     view-number : (o : Operand) → cut bytes ≡ token (number o) rest → View (onNumber rules rest s o)
     unfolding onNumber
-    view-number o q = either (ltb (length (s .left .operands)) (rules .operands)) _ _ (λ t. goes _ (pushes o rest q (ltb-true _ _ t))) (λ t. declines 5 (λ e. omega arith))
+    view-number o q =
+        either (ltb (length (s .left .operands)) (rules .operands)) _ _
+        (λ t. goes _ (pushes o rest q (ltb-true _ _ t))) (λ t. declines 5 (λ e. omega arith))
 
     module _ (p : Operator) (q : cut bytes ≡ token (operator p) rest) where
       view-stem : rules .kind p ≡ Stem → View (onStem rules rest s p)
       unfolding onStem
-      view-stem k = either (leb (counted (s .left) .hints) (rules .hints)) _ _ (λ t. goes _ (stems p rest q k (leb-true _ _ t))) (λ t. declines 11 (λ e. omega arith))
+      view-stem k =
+          either (leb (counted (s .left) .hints) (rules .hints)) _ _
+          (λ t. goes _ (stems p rest q k (leb-true _ _ t))) (λ t. declines 11 (λ e. omega arith))
 
       view-mask : rules .kind p ≡ Mask → View (onMask rules rest s p)
       unfolding onMask
       view-mask k =
           either (leb (atMask (s .left) .hints) (rules .hints)) _ _
-          (λ t. either (leb (atMask (s .left) .mask) (length rest)) _ _ (λ u. goes _ (masks p rest q k (leb-true _ _ t) (leb-true _ _ u))) (λ u. declines 4 (λ e. omega arith)))
+          (λ t.
+          either (leb (atMask (s .left) .mask) (length rest)) _ _
+          (λ u. goes _ (masks p rest q k (leb-true _ _ t) (leb-true _ _ u))) (λ u. declines 4 (λ e. omega arith)))
           (λ t. declines 11 (λ e. omega arith))
 
       view-end : rules .kind p ≡ End → View (onEnd rules rest s p)

@@ -3,28 +3,27 @@ use mathlib.Core.Path.{_≡_, refl, sym, ap, subst, _∙_}
 use mathlib.Core.Bool.{Bool, true, false, cond}
 use mathlib.Core.List.{List, [], _∷_, _++_, append-assoc, append-nil}
 use Prim.Native.Nat.{ℕ, zero, suc, _+_, _-_, _<_, _≤_, zero-le}
-use native.Mathlib.Nat.{le-refl, add-zero, zero-add, suc-add, add-suc, add-comm, sub-add-cancel}
+use native.Mathlib.Nat.{add-zero, suc-add, add-suc}
 use native.Mathlib.Omega.{arith}
-use lib.Dec.{eqb}
-use lib.ListN.{length, take, drop, length-append, take-append-drop}
+use lib.ListN.{length, drop, length-append}
 use lib.Seq.{take-at, drop-at}
-use Rattle.number.specs.Answer.{Answer, accepted, refused}
-use Rattle.number.specs.Number.{Number, charstringRows, readBy}
+use Rattle.number.specs.Answer.{accepted}
+use Rattle.number.specs.Number.{charstringRows}
 use Rattle.number.specs.Written.{spelling}
 use Rattle.number.specs.RoundTrip.{Spellable, read-spelling, spelling-some}
 use Rattle.number.specs.declared.Operand.{Operand}
 use Rattle.reading.specs.Rules.{Rules}
 use Rattle.reading.specs.Lists.{Lists}
-use Rattle.reading.specs.Tokens.{Token, number, operator, Cut, token, lacking, cutBy, cut}
+use Rattle.reading.specs.Tokens.{number, token, cutBy, cut}
 use Rattle.reading.specs.CutLaws.{Cuttable}
 use Rattle.reading.specs.Items.{Item, operand, bare, masked, Left, pushed, cleared, counted, atMask, byKind, leaves, leftBy}
-use Rattle.reading.specs.Reading.{Entering, Shown, item, call, return, struck, State, start, Ending, back, ended, stopped, Run, Step, halt, go, enter, shows, onToken, after, tokensOf, read, reading, Accepted}
+use Rattle.reading.specs.Reading.{Shown, item, struck, State, start, back, ended, Run, Step, go, shows, onToken, after, tokensOf, read, reading, Accepted}
 use Rattle.reading.specs.Flat.{operatorBytes, spelled, flat, Straight, isMask, shownBehind, behind, straightFrom, straight}
 use Rattle.reading.specs.StepLaws.{Goes, pushes, stems, clears, masks, ends, token-goes}
 use Rattle.reading.specs.ValidLaws.{Valid, none, number-behind, stem-behind, clear-behind, mask-behind, Whole, open-ended, end-behind}
 use Rattle.reading.specs.declared.Operator.{Operator}
 use Rattle.reading.specs.declared.Kind.{Kind}
-use Rattle.reading.specs.declared.Kind.the-variants.{Stem, Clear, Mask, Call, Return, End, Unknown}
+use Rattle.reading.specs.declared.Kind.the-variants.{Stem, Clear, Mask, End}
 
 -- ---- one item's bytes, and whatever follows
 
@@ -71,7 +70,8 @@ module _ (rules : Rules) where
       ∙ ap (behind rules _ f _) (c z)
       ∙ ap (λ (x : Straight). straightFrom rules fuel (x .items) (x .rest)) (not-mask k h p e f z)
 
-  mask-back : (f : List Item) (p : Operator) (m : List ℕ) → Cuttable p → rules .kind p ≡ Mask → length m ≡ atMask (leftBy rules f) .mask → OneBack f (masked p m)
+  mask-back : (f : List Item) (p : Operator) (m : List ℕ) → Cuttable p → rules .kind p ≡ Mask → length m ≡ atMask (leftBy rules f) .mask
+      → OneBack f (masked p m)
   unfolding spelled behind
   mask-back f p m c e n fuel z =
       let bytes = operatorBytes p ++ (m ++ z) in
@@ -174,24 +174,31 @@ module _ (rules : Rules) where
     abbrev OneAgain : List Item → Item → Type 0
     OneAgain f i = (fuel : ℕ) (z : List ℕ) → runs (suc fuel) (spelled i ++ z) (stateOf f) ≡ runs fuel z (stateOf (i ∷ f))
 
+    -- the token at the start of bytes leads to x
+    abbrev Leads : List Item → List ℕ → Step → Type 0
+    Leads f bytes x = Goes rules lists levels (size - length bytes) bytes (stateOf f) x
+
     module _ (f : List Item) (within : length f < budget) where
-      begins : length (stateOf f .shown) < budget
-      begins = let e = count-shown f in omega arith
+      follows : (fuel : ℕ) (bytes : List ℕ) → 0 < length bytes → (x : Step) → Leads f bytes x
+          → runs (suc fuel) bytes (stateOf f) ≡ after (λ more t. runs fuel more t) below x
+      follows fuel bytes h x g =
+          let begins : length (stateOf f .shown) < budget = let e = count-shown f in omega arith in
+          run-step fuel bytes (stateOf f) h
+          ∙ ap (after (λ more t. runs fuel more t) below) (token-goes rules lists budget levels (size - length bytes) bytes (stateOf f) begins x g)
 
       -- a token that leads on to z with the item shown
       led : (i : Item) (x : Left) (fuel : ℕ) (bytes z : List ℕ) → 0 < length bytes → leaves rules i (leftBy rules f) ≡ x
-          → Goes rules lists levels (size - length bytes) bytes (stateOf f) (go z (shows i x (stateOf f)))
-          → runs (suc fuel) bytes (stateOf f) ≡ runs fuel z (stateOf (i ∷ f))
+          → Leads f bytes (go z (shows i x (stateOf f))) → runs (suc fuel) bytes (stateOf f) ≡ runs fuel z (stateOf (i ∷ f))
       unfolding after leftBy shownOf
       led i x fuel bytes z h e g =
-          run-step fuel bytes (stateOf f) h
-          ∙ ap (after (λ more t. runs fuel more t) below) (token-goes rules lists budget levels (size - length bytes) bytes (stateOf f) begins _ g)
+          follows fuel bytes h _ g
           ∙ ap (λ (y : Left). runs fuel z (record { left = y; shown = item i ∷ shownOf f; within = [] })) (sym e)
 
       number-again : (o : Operand) → Spellable false o → length (leftBy rules f .operands) < rules .operands → OneAgain f (operand o)
       unfolding spelled leaves
       number-again o p l fuel z =
-          led (operand o) (pushed o (leftBy rules f)) fuel (spelling charstringRows o ++ z) z (some rules (spelling charstringRows o) z (spelling-some false o p)) refl
+          let bytes = spelling charstringRows o in
+          led (operand o) (pushed o (leftBy rules f)) fuel (bytes ++ z) z (some rules bytes z (spelling-some false o p)) refl
           (pushes o z (number-cut o p z) l)
 
       module _ (p : Operator) (c : Cuttable p) where
@@ -221,8 +228,8 @@ module _ (rules : Rules) where
             let fits : x .mask ≤ length (m ++ z) = omega (arith, length-append m z) in
             ap (λ (b : List ℕ). runs (suc fuel) b (stateOf f)) (append-assoc (operatorBytes p) m z)
             ∙ led (masked p m) x fuel bytes z (there (m ++ z)) refl
-            (subst (λ (y : List ℕ). Goes rules lists levels (size - length bytes) bytes (stateOf f) (go y (shows (masked p m) x (stateOf f)))) (drop-at m z (x .mask) n)
-            (subst (λ (y : List ℕ). Goes rules lists levels (size - length bytes) bytes (stateOf f) (go (drop (x .mask) (m ++ z)) (shows (masked p y) x (stateOf f)))) (take-at m z (x .mask) n)
+            (subst (λ (y : List ℕ). Leads f bytes (go y (shows (masked p m) x (stateOf f)))) (drop-at m z (x .mask) n)
+            (subst (λ (y : List ℕ). Leads f bytes (go (drop (x .mask) (m ++ z)) (shows (masked p y) x (stateOf f)))) (take-at m z (x .mask) n)
             (masks p (m ++ z) (c (m ++ z)) k l fits)))
 
     abbrev AllAgain : List Item → Type 0
@@ -260,9 +267,7 @@ module _ (rules : Rules) where
         ≡ record { how = ended; state = record { left = leftBy rules f; shown = item (bare p) ∷ shownOf f; within = [] } }
     unfolding after
     end-again f p c k l h fuel =
-        let bytes = operatorBytes p ++ [] in
-        run-step fuel bytes (stateOf f) (there f h p c [])
-        ∙ ap (after (λ more t. runs fuel more t) below) (token-goes rules lists budget levels (size - length bytes) bytes (stateOf f) (begins f h) _ (ends p [] (c []) k l))
+        follows f h fuel (operatorBytes p ++ []) (there f h p c []) _ (ends p [] (c []) k l)
 
 -- What a run that read just the items f gives: it is accepted, and has shown them and nothing else.
 pub record Just (f : List Item) (r : Run) : Type 0 where

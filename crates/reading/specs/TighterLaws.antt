@@ -3,19 +3,20 @@
 use mathlib.Core.Path.{_≡_, refl, sym, ap, subst, _∙_}
 use mathlib.Core.Bool.{Bool, true, false}
 use mathlib.Core.List.{List, [], _∷_}
-use Prim.Native.Nat.{ℕ, zero, suc, _+_, _-_, _<_, _≤_}
+use Prim.Native.Nat.{ℕ, zero, suc, _-_, _≤_}
 use native.Mathlib.Nat.{le-refl}
 use native.Mathlib.Omega.{arith}
 use lib.Dec.{lit≤}
 use lib.ListN.{length}
-use Rattle.number.specs.Answer.{Answer, accepted, refused}
+use Rattle.number.specs.Answer.{accepted}
 use Rattle.number.specs.Call.{callee}
 use Rattle.number.specs.CallLaws.{exact-callee}
 use Rattle.number.specs.declared.Operand.{Operand}
 use Rattle.reading.specs.Rules.{Rules, plain, strict}
-use Rattle.reading.specs.Lists.{Lists, listed}
-use Rattle.reading.specs.Reading.{State, start, Ending, back, ended, stopped, Run, Step, halt, go, enter, onToken, resume, after, tokensOf, read, reading, Accepted}
-use Rattle.reading.specs.StepLaws.{Begun, declines, goes, Goes, pushes, stems, clears, masks, enters, returns, ends, Stepped, spent, begun, token-is, token-goes}
+use Rattle.reading.specs.Lists.{Lists}
+use Rattle.reading.specs.Reading.{State, start, Ending, back, ended, stopped, Run, Step, halt, go}
+use Rattle.reading.specs.Reading.{enter, onToken, resume, after, tokensOf, read, reading, Accepted}
+use Rattle.reading.specs.StepLaws.{declines, goes, Goes, pushes, stems, clears, masks, enters, returns, ends, Stepped, spent, begun, token-is, token-goes}
 use Rattle.reading.specs.BudgetLaws.{never-accepted, Entered}
 use Rattle.reading.specs.declared.Operator.{Operator}
 

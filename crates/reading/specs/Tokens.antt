@@ -1,6 +1,6 @@
 -- Bytes cut into tokens: a number, or an operator with its escape byte (TN5177, sections 3.1 and 3.2). What a mask takes is not known here.
 use Prim.Native.Nat.{ℕ, _<_}
-use mathlib.Core.Bool.{Bool, true, false, cond}
+use mathlib.Core.Bool.{true, false, cond}
 use mathlib.Core.List.{List, [], _∷_}
 use lib.ListN.{getD, drop}
 use lib.Dec.{eqb}

@@ -1,28 +1,26 @@
 -- The items that a run leaves once calls and returns are struck out: they are valid from the start, and what they leave behind is the state's.
 -- This is the invariant behind demand 3. Assumes nothing.
 use mathlib.Core.Path.{_≡_, refl, sym, ap, subst, _∙_}
-use mathlib.Core.Bool.{Bool, true, false, cond}
-use mathlib.Core.List.{List, [], _∷_, _++_}
-use Prim.Native.Nat.{ℕ, zero, suc, _+_, _-_, _*_, _/_, _<_, _≤_, zero-le}
-use native.Mathlib.Nat.{le-refl}
+use mathlib.Core.Bool.{true, false}
+use mathlib.Core.List.{List, [], _∷_}
+use Prim.Native.Nat.{ℕ, _<_, _≤_}
 use native.Mathlib.Omega.{arith}
-use lib.Dec.{eqb}
-use lib.ListN.{length, take, drop, length-append, length-drop}
+use lib.ListN.{length, take, drop}
 use lib.Seq.{length-take-le}
-use Rattle.number.specs.RoundTrip.{Spellable, spelling-most}
+use Rattle.number.specs.RoundTrip.{Spellable}
 use Rattle.number.specs.declared.Operand.{Operand}
 use Rattle.reading.specs.Rules.{Rules}
-use Rattle.reading.specs.Lists.{Lists, Entry, present, absent, listed}
-use Rattle.reading.specs.Tokens.{Token, number, operator, token, cut, Bytes}
+use Rattle.reading.specs.Lists.{Lists, present, listed}
+use Rattle.reading.specs.Tokens.{number, operator, token, cut, Bytes}
 use Rattle.reading.specs.CutLaws.{Cuttable, cut-off, bytes-drop}
 use Rattle.reading.specs.Items.{Item, operand, bare, masked, Left, pushed, popped, cleared, counted, atMask, byKind, leaves, leftBy}
-use Rattle.reading.specs.Reading.{Entering, Shown, item, call, return, struck, State, start, Ending, back, ended, stopped, Run, Step, halt, go, enter, endsInOperand, onToken, reading, closed}
-use Rattle.reading.specs.StepLaws.{Begun, declines, goes, Goes, pushes, stems, clears, masks, enters, returns, ends, Stepped, spent, begun, token-is}
+use Rattle.reading.specs.Reading.{Entering, Shown, item, call, return, struck, State, start, Ending, back, ended, stopped, Step, endsInOperand, reading}
+use Rattle.reading.specs.StepLaws.{declines, goes, Goes, pushes, stems, clears, masks, enters, returns, ends, Stepped, spent, begun, token-is}
 use Rattle.reading.specs.RunLaws.{Led, Kept, kept}
 use Rattle.reading.specs.declared.Operator.{Operator}
 use Rattle.reading.specs.declared.Which.{Which}
 use Rattle.reading.specs.declared.Kind.{Kind}
-use Rattle.reading.specs.declared.Kind.the-variants.{Stem, Clear, Mask, Call, Return, End, Unknown}
+use Rattle.reading.specs.declared.Kind.the-variants.{Stem, Clear, Mask, End}
 
 -- ---- valid items, of which the latest stands first
 
