@@ -8,3 +8,4 @@ pub mod TurnLaws
 pub mod EndLaws
 pub mod EnterLaws
 pub mod StretchLaws
+pub mod LoopLaws

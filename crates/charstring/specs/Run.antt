@@ -202,10 +202,10 @@ module _ (cs : List ℕ) (by : Limits) where
   upon g = record { rules = meant (by .rules); lists = g .lists; budget = by .budget; levels = g .levels; cs = cs; start = g .start }
 
   -- the string ended, or a call stands at some place
-  abbrev pub Reached : Ground → List ℕ → List ℕ → State → Stop → Type 0
-  Reached g stack out st (Finished how) = Done (meant (by .rules)) stack out (record { how = how; st = st }) (whole (upon g))
-  Reached g stack out st (Calling next w) =
-      (i : ℕ) × Here (upon g) stack out st i × CallsAt (meant (by .rules)) cs i (by .budget) st next w
+  abbrev pub Reached : Ground → ℕ → List ℕ → List ℕ → State → Stop → Type 0
+  Reached g from stack out st (Finished how) = Done (meant (by .rules)) stack out (record { how = how; st = st }) (whole (upon g))
+  Reached g from stack out st (Calling next w) =
+      (i : ℕ) × (from ≤ i) × Here (upon g) stack out st i × CallsAt (meant (by .rules)) cs i (by .budget) st next w
 
   -- the state stands for one of the reading, on some ground
   unfoldable pub Standing : List ℕ → List ℕ → State → ℕ → Type 0
@@ -213,7 +213,7 @@ module _ (cs : List ℕ) (by : Limits) where
 
   -- and on whatever ground it does, the stretch is the reading's
   unfoldable pub StretchesTo : List ℕ → List ℕ → State → ℕ → Stretched → List ℕ → List ℕ → Type 0
-  StretchesTo stack out s i r stack₁ out₁ = (g : Ground) → Here (upon g) stack out s i → Reached g stack₁ out₁ (r .st) (r .stop)
+  StretchesTo stack out s i r stack₁ out₁ = (g : Ground) → Here (upon g) stack out s i → Reached g i stack₁ out₁ (r .st) (r .stop)
 
 -- ---- a string
 
@@ -240,11 +240,12 @@ pub record Setting (globals locals : List ℕ) (by : Limits) (stack : List ℕ) 
 unfoldable pub Sound : Limits → List ℕ → List ℕ → State → Type 0
 Sound by stack out s = (t : Now) × Repr (meant (by .rules)) stack out s t
 
-module _ (cs globals locals : List ℕ) (by : Limits) where
-  abbrev pub grounded : ℕ → Now → Ground
-  grounded levels t = record { lists = listsOf (meant (by .rules) .width) globals locals; levels = levels; start = t }
+-- a string with these lists, so many levels left and this start
+abbrev pub around : List ℕ → List ℕ → List ℕ → Limits → ℕ → Now → Setup
+around cs globals locals by levels t =
+    upon cs by (record { lists = listsOf (meant (by .rules) .width) globals locals; levels = levels; start = t })
 
-  -- whatever state of the reading the state stands for, the run is the reading's
-  unfoldable pub RunsTo : State → List ℕ → List ℕ → ℕ → Ran → List ℕ → List ℕ → Type 0
-  RunsTo s stack out levels r stack₁ out₁ =
-      (t : Now) → Repr (meant (by .rules)) stack out s t → Done (meant (by .rules)) stack₁ out₁ r (whole (upon cs by (grounded levels t)))
+-- whatever state of the reading the state stands for, the run is the reading's
+unfoldable pub RunsTo : List ℕ → List ℕ → List ℕ → Limits → State → List ℕ → List ℕ → ℕ → Ran → List ℕ → List ℕ → Type 0
+RunsTo cs globals locals by s stack out levels r stack₁ out₁ =
+    (t : Now) → Repr (meant (by .rules)) stack out s t → Done (meant (by .rules)) stack₁ out₁ r (whole (around cs globals locals by levels t))

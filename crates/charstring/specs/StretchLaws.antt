@@ -73,6 +73,7 @@ module _ (cs : List ℕ) (by : Limits) (stack₀ out₀ : List ℕ) (s₀ : Stat
     pub same-stack : length stack ≡ length stack₀
     pub roomy : Roomy by stack₀
     pub standing : Standing cs by stack₀ out₀ s₀ i₀
+    pub further : i₀ ≤ i
     pub stands : Stands stack out s i
 
   module _ (stack out : List ℕ) (s : State) (i : ℕ) (h : Turn stack out s i) where
@@ -82,7 +83,7 @@ module _ (cs : List ℕ) (by : Limits) (stack₀ out₀ : List ℕ) (s₀ : Stat
         safe-here _ stack out s i (h .stands (h .standing .0) (h .standing .1)) (h .roomy .few-hints)
         (subst (λ (n : ℕ). n ≤ 65535) (sym (h .same-stack)) (h .roomy .few-words))
 
-    words : meant (by .rules) .operands ≤ length stack
+    pub words : meant (by .rules) .operands ≤ length stack
     words = subst (λ (n : ℕ). by .rules .operands ≤ n) (sym (h .same-stack)) (h .roomy .operands-fit)
 
     abbrev pub Asks : Request → Type 0
@@ -153,17 +154,18 @@ module _ (cs : List ℕ) (by : Limits) (stack₀ out₀ : List ℕ) (s₀ : Stat
 
     pub arm-call : (j : ℕ) (w : Which) → Asks (Calls j w) → Gives (record { st = s; stop = Calling j w }) out
     unfolding StretchesTo
-    arm-call j w a = λ g y. (i, h .stands g y, a)
+    arm-call j w a = λ g y. (i, h .further, h .stands g y, a)
 
   -- what is known once the token was looked at
   pub record Head (stack out : List ℕ) (s : State) (i : ℕ) (r : Request) : Type 0 where
     pub turn : Turn stack out s i
     pub numbers : Safe stack s
+    pub fits : meant (by .rules) .operands ≤ length stack
     pub looked : Looked (meant (by .rules)) cs i (by .budget) s r
 
   pub headed : (stack out : List ℕ) (s : State) (i : ℕ) (r : Request) → Turn stack out s i → Looked (meant (by .rules)) cs i (by .budget) s r
       → Head stack out s i r
-  headed stack out s i r h a = record { turn = h; numbers = safe stack out s i h; looked = a }
+  headed stack out s i r h a = record { turn = h; numbers = safe stack out s i h; fits = words stack out s i h; looked = a }
 
   pub asks : (stack out : List ℕ) (s : State) (i : ℕ) (r : Request) → Head stack out s i r → (x : Request) → r ≡ x
       → Looked (meant (by .rules)) cs i (by .budget) s x

@@ -1,7 +1,15 @@
-use Prim.Native.Nat.{ℕ, _-_}
-use mathlib.Core.Path.{_≡_}
-use lib.ListN.{length}
-use Rattle.charstring.specs.StretchLaws.{Stands}
+use mathlib.Core.Path.{_≡_, refl, ap, _∙_}
+use Prim.Native.Nat.{ℕ, _-_, _≤_}
+use native.Mathlib.Nat.{le-refl}
+use native.Mathlib.Omega.{arith}
+use lib.ListN.{length, length-set}
+use borrow.Author.Needs.{needs}
+use Rattle.charstring.specs.StretchLaws.{Stands, Turn, Head, headed, asks, safe, operator-two}
+use Rattle.charstring.specs.StretchLaws.{arm-push, arm-short, arm-clear, arm-mask, arm-out, arm-bad, arm-return, arm-end, arm-call}
+use Rattle.charstring.specs.declared.state.State.{State}
+use Rattle.charstring.specs.declared.look.Request.the-variants.{Push, Clears, Masks, Calls, Returns, Ends, Out as Empty, Bad, Short}
+use Rattle.charstring.specs.declared.stretch.Ending.the-variants.{Back, Ended}
+use Rattle.charstring.specs.declared.stretch.Stop.the-variants.{Done as Finished}
 use Rattle.charstring.proofs.stretch.stretch.Statement.{statement}
 use Rattle.charstring.proofs.stretch.stretch.Tie as tie
 use Rattle.charstring.proofs.stretch.stretch.Reads as reads
@@ -22,258 +30,295 @@ use Rattle.charstring.proofs.stretch.ended.Reads as ended-reads
 
 abbrev Inv-loop : tie.InvT-loop
 Inv-loop cs from by stack₀ out₀ st₀ i₀ stack out st i =
-    (length stack ≡ length stack₀) × (length out ≡ length out₀) × Stands cs by stack₀ out₀ st₀ i₀ stack out st i
+    (length stack ≡ length stack₀) × (length out ≡ length out₀) × (i₀ ≤ i) × Stands cs by stack₀ out₀ st₀ i₀ stack out st i
 
 abbrev μ-loop : tie.MeasureT-loop
 μ-loop cs from by stack₀ out₀ st₀ i₀ stack out st i = length cs - i
 
+-- where the loop is
+turn-at : (c : tie.At-loop Inv-loop μ-loop) → let args = c .before .before .before .before .args in
+    Turn (args .cs .now) (args .by) (args .stack .now) (args .out .now) (args .s) (args .from) (c .loop .stack) (c .loop .out) (c .loop .st) (c .loop .i)
+turn-at c =
+    let start = c .before .before .before .before in
+    record { same-stack = c .loop .inv .0; roomy = start .pre .0; standing = start .pre .1; further = c .loop .inv .2; stands = c .loop .inv .3 }
+
+-- what is known once the token was looked at
+head : (c : tie.After-look Inv-loop μ-loop) → let args = c .before .before .before .before .before .args in let loop = c .before .loop in
+    Head (args .cs .now) (args .by) (args .stack .now) (args .out .now) (args .s) (args .from) (loop .stack) (loop .out) (loop .st) (loop .i)
+    (c .look .result)
+head c = headed _ _ _ _ _ _ _ _ _ _ _ (turn-at (c .before)) (c .look .ensures)
+
 -- src/stretch.rt:60:5
 loop-holds : tie.Need-loop-holds Inv-loop μ-loop
-loop-holds c = ?
+loop-holds c = (refl, refl, le-refl _, λ g x. x)
 
 -- src/stretch.rt:61:15
 look-requires : tie.Need-look-requires Inv-loop μ-loop
-look-requires c κs = ?
+look-requires c κs = let f = safe _ _ _ _ _ _ _ _ _ _ (turn-at c) in (f .hinted, omega arith)
 
 -- src/stretch.rt:63:28
 enum-known-next : tie.Need-enum-known-next Inv-loop μ-loop
-enum-known-next c = ?
+enum-known-next c = search needs
 
 -- src/stretch.rt:64:17
 put-two-requires : tie.Need-put-two-requires Inv-loop μ-loop
-put-two-requires c κs = ?
+put-two-requires c κs = let d = head (c .before .before .before .before) in let f = asks _ _ _ _ _ _ _ _ _ _ _ d (Short _ _ _) (c .before .before .next .given .1) in omega (arith, d .numbers, f .0 .0)
 
 -- src/stretch.rt:66:32
 pack-short-requires : tie.Need-pack-short-requires Inv-loop μ-loop
-pack-short-requires c κs = ?
+pack-short-requires c κs = tt
 
 -- src/stretch.rt:66:17
 mul-stack : tie.Need-mul-stack Inv-loop μ-loop
-mul-stack c = ?
+mul-stack c = let d = head (c .before .before .before .before .before .before .before .before) in let f = asks _ _ _ _ _ _ _ _ _ _ _ d (Short _ _ _) (c .before .before .before .before .before .before .next .given .1) in omega (arith, d .numbers, d .fits, f .0 .2)
 
 -- src/stretch.rt:66:17
 slice-write-stack : tie.Need-slice-write-stack Inv-loop μ-loop
-slice-write-stack c = ?
+slice-write-stack c = let d = head (c .before .before .before .before .before .before .before .before) in let f = asks _ _ _ _ _ _ _ _ _ _ _ d (Short _ _ _) (c .before .before .before .before .before .before .next .given .1) in omega (arith, d .numbers, d .fits, f .0 .2)
 
 -- src/stretch.rt:67:44
 sub-push : tie.Need-sub-push Inv-loop μ-loop
-sub-push c = ?
+sub-push c = let d = head (c .before .before .before .before .before .before .before .before) in let f = asks _ _ _ _ _ _ _ _ _ _ _ d (Short _ _ _) (c .before .before .before .before .before .before .next .given .1) in omega (arith, f .0 .0)
 
 -- src/stretch.rt:67:31
 add-push : tie.Need-add-push Inv-loop μ-loop
-add-push c = ?
+add-push c = let d = head (c .before .before .before .before .before .before .before .before .before) in let f = asks _ _ _ _ _ _ _ _ _ _ _ d (Short _ _ _) (c .before .before .before .before .before .before .before .next .given .1) in omega (arith, d .numbers, f .0 .0, c .before .before .before .before .before .before .before .before .before .before .before .before .before .before .good)
 
 -- src/stretch.rt:67:17
 push-requires : tie.Need-push-requires Inv-loop μ-loop
-push-requires c κs = ?
+push-requires c κs = let d = head (c .before .before .before .before .before .before .before .before .before) in let f = asks _ _ _ _ _ _ _ _ _ _ _ d (Short _ _ _) (c .before .before .before .before .before .before .before .next .given .1) in (omega (arith, d .numbers), d .numbers .tailed, omega (arith, f .0 .0))
 
 -- src/stretch.rt:60:5
 loop-less : tie.Need-loop-less Inv-loop μ-loop
-loop-less c = ?
+loop-less c = let d = head (c .before .before .before .before .before .before .before .before .before .before) in let f = asks _ _ _ _ _ _ _ _ _ _ _ d (Short _ _ _) (c .before .before .before .before .before .before .before .before .next .given .1) in omega (arith, f .0 .0)
 
 -- src/stretch.rt:60:5
 loop-again : tie.Need-loop-again Inv-loop μ-loop
-loop-again c = ?
+loop-again c = let d = head (c .before .before .before .before .before .before .before .before .before .before) in let f = asks _ _ _ _ _ _ _ _ _ _ _ d (Short _ _ _) (c .before .before .before .before .before .before .before .before .next .given .1) in (
+      length-set {A = ℕ} (c .before .before .before .before .before .before .before .before .before .before .before .loop .stack) (c .before .before .before .before .before .before .before .before .before .before .before .loop .st .count) (c .before .before .pack-short .result) ∙ c .before .before .before .before .before .before .before .before .before .before .before .loop .inv .0,
+      c .before .before .before .before .before .put-two .kept .0 ∙ c .before .before .before .before .before .before .before .before .before .before .before .loop .inv .1,
+      omega (arith, d .turn .further, f .0 .0),
+      arm-short _ _ _ _ _ _ _ _ _ _ (d .turn) _ _ _ (c .before .before .pack-short .result) _ _ _ f (c .before .before .pack-short .ensures) (c .before .before .before .before .before .put-two .ensures .1) refl (c .push .ensures),
+    )
 
 -- src/stretch.rt:70:29
 enum-known-next-2 : tie.Need-enum-known-next-2 Inv-loop μ-loop
-enum-known-next-2 c = ?
+enum-known-next-2 c = search needs
 
 -- src/stretch.rt:71:21
 put-operator-requires : tie.Need-put-operator-requires Inv-loop μ-loop
-put-operator-requires c κs = ?
+put-operator-requires c κs = let d = head (c .before .before .before .before) in let f = asks _ _ _ _ _ _ _ _ _ _ _ d (Clears _ _ _) (c .before .before .next2 .given .1) in omega (arith, d .numbers, f .0 .begun)
 
 -- src/stretch.rt:72:17
 clear-requires : tie.Need-clear-requires Inv-loop μ-loop
-clear-requires c κs = ?
+clear-requires c κs = let d = head (c .before .before .before .before .before .before .before) in let f = asks _ _ _ _ _ _ _ _ _ _ _ d (Clears _ _ _) (c .before .before .before .before .before .next2 .given .1) in omega (arith, f .0 .begun)
 
 -- src/stretch.rt:60:5
 loop-less-2 : tie.Need-loop-less-2 Inv-loop μ-loop
-loop-less-2 c = ?
+loop-less-2 c = let d = head (c .before .before .before .before .before .before .before .before) in let f = asks _ _ _ _ _ _ _ _ _ _ _ d (Clears _ _ _) (c .before .before .before .before .before .before .next2 .given .1) in omega (arith, f .0 .begun)
 
 -- src/stretch.rt:60:5
 loop-again-2 : tie.Need-loop-again-2 Inv-loop μ-loop
-loop-again-2 c = ?
+loop-again-2 c = let d = head (c .before .before .before .before .before .before .before .before) in let f = asks _ _ _ _ _ _ _ _ _ _ _ d (Clears _ _ _) (c .before .before .before .before .before .before .next2 .given .1) in (
+      c .before .before .before .before .before .before .before .before .before .loop .inv .0,
+      c .before .before .before .put-operator .kept .0 ∙ c .before .before .before .before .before .before .before .before .before .loop .inv .1,
+      omega (arith, d .turn .further, f .0 .begun),
+      arm-clear _ _ _ _ _ _ _ _ _ _ (d .turn) _ _ _ _ _ _ f (c .before .before .before .put-operator .ensures .1) (c .before .before .before .put-operator .ensures .0) (c .clear .ensures),
+    )
 
 -- src/stretch.rt:75:27
 enum-known-next-3 : tie.Need-enum-known-next-3 Inv-loop μ-loop
-enum-known-next-3 c = ?
+enum-known-next-3 c = search needs
 
 -- src/stretch.rt:76:21
 put-operand-requires : tie.Need-put-operand-requires Inv-loop μ-loop
-put-operand-requires c κs = ?
+put-operand-requires c κs = let d = head (c .before .before .before .before) in let f = asks _ _ _ _ _ _ _ _ _ _ _ d (Push _ _) (c .before .before .next3 .given .1) in omega (arith, d .numbers, f .0)
 
 -- src/stretch.rt:78:32
 pack-requires : tie.Need-pack-requires Inv-loop μ-loop
-pack-requires c κs = ?
+pack-requires c κs = tt
 
 -- src/stretch.rt:78:17
 mul-stack-2 : tie.Need-mul-stack-2 Inv-loop μ-loop
-mul-stack-2 c = ?
+mul-stack-2 c = let d = head (c .before .before .before .before .before .before .before .before) in let f = asks _ _ _ _ _ _ _ _ _ _ _ d (Push _ _) (c .before .before .before .before .before .before .next3 .given .1) in omega (arith, d .numbers, d .fits, f .2)
 
 -- src/stretch.rt:78:17
 slice-write-stack-2 : tie.Need-slice-write-stack-2 Inv-loop μ-loop
-slice-write-stack-2 c = ?
+slice-write-stack-2 c = let d = head (c .before .before .before .before .before .before .before .before) in let f = asks _ _ _ _ _ _ _ _ _ _ _ d (Push _ _) (c .before .before .before .before .before .before .next3 .given .1) in omega (arith, d .numbers, d .fits, f .2)
 
 -- src/stretch.rt:79:17
 push-requires-2 : tie.Need-push-requires-2 Inv-loop μ-loop
-push-requires-2 c κs = ?
+push-requires-2 c κs = let d = head (c .before .before .before .before .before .before .before .before) in let f = asks _ _ _ _ _ _ _ _ _ _ _ d (Push _ _) (c .before .before .before .before .before .before .next3 .given .1) in (omega (arith, d .numbers), d .numbers .tailed, omega (arith, f .0))
 
 -- src/stretch.rt:60:5
 loop-less-3 : tie.Need-loop-less-3 Inv-loop μ-loop
-loop-less-3 c = ?
+loop-less-3 c = let d = head (c .before .before .before .before .before .before .before .before .before) in let f = asks _ _ _ _ _ _ _ _ _ _ _ d (Push _ _) (c .before .before .before .before .before .before .before .next3 .given .1) in omega (arith, f .0)
 
 -- src/stretch.rt:60:5
 loop-again-3 : tie.Need-loop-again-3 Inv-loop μ-loop
-loop-again-3 c = ?
+loop-again-3 c = let d = head (c .before .before .before .before .before .before .before .before .before) in let f = asks _ _ _ _ _ _ _ _ _ _ _ d (Push _ _) (c .before .before .before .before .before .before .before .next3 .given .1) in (
+      length-set {A = ℕ} (c .before .before .before .before .before .before .before .before .before .before .loop .stack) (c .before .before .before .before .before .before .before .before .before .before .loop .st .count) (c .before .pack .result) ∙ c .before .before .before .before .before .before .before .before .before .before .loop .inv .0,
+      c .before .before .before .before .put-operand .kept .0 ∙ c .before .before .before .before .before .before .before .before .before .before .loop .inv .1,
+      omega (arith, d .turn .further, f .0),
+      arm-push _ _ _ _ _ _ _ _ _ _ (d .turn) _ _ (c .before .pack .result) _ _ _ f (c .before .pack .ensures) (c .before .before .before .before .put-operand .ensures .1) (c .before .before .before .before .put-operand .ensures .0) (c .push2 .ensures),
+    )
 
 -- src/stretch.rt:82:28
 enum-known-a : tie.Need-enum-known-a Inv-loop μ-loop
-enum-known-a c = ?
+enum-known-a c = search needs
 
 -- src/stretch.rt:83:21
 put-operator-requires-2 : tie.Need-put-operator-requires-2 Inv-loop μ-loop
-put-operator-requires-2 c κs = ?
+put-operator-requires-2 c κs = let d = head (c .before .before .before .before) in let f = asks _ _ _ _ _ _ _ _ _ _ _ d (Masks _ _ _ _ _) (c .before .before .a .given .1) in omega (arith, d .numbers, f .0 .begun)
 
 -- src/stretch.rt:84:53
 sub-put-bytes : tie.Need-sub-put-bytes Inv-loop μ-loop
-sub-put-bytes c = ?
+sub-put-bytes c = let d = head (c .before .before .before .before .before .before .before .before) in let f = asks _ _ _ _ _ _ _ _ _ _ _ d (Masks _ _ _ _ _) (c .before .before .before .before .before .before .a .given .1) in f .3
 
 -- src/stretch.rt:84:53
 part-put-bytes-start : tie.Need-part-put-bytes-start Inv-loop μ-loop
-part-put-bytes-start c = ?
+part-put-bytes-start c = let d = head (c .before .before .before .before .before .before .before .before) in let f = asks _ _ _ _ _ _ _ _ _ _ _ d (Masks _ _ _ _ _) (c .before .before .before .before .before .before .a .given .1) in f .3
 
 -- src/stretch.rt:84:53
 part-put-bytes-end : tie.Need-part-put-bytes-end Inv-loop μ-loop
-part-put-bytes-end c = ?
+part-put-bytes-end c = let d = head (c .before .before .before .before .before .before .before .before) in let f = asks _ _ _ _ _ _ _ _ _ _ _ d (Masks _ _ _ _ _) (c .before .before .before .before .before .before .a .given .1) in f .4
 
 -- src/stretch.rt:84:21
 put-bytes-requires : tie.Need-put-bytes-requires Inv-loop μ-loop
-put-bytes-requires c κs = ?
+put-bytes-requires c κs = let d = head (c .before .before .before .before .before .before .before .before .before) in let f = asks _ _ _ _ _ _ _ _ _ _ _ d (Masks _ _ _ _ _) (c .before .before .before .before .before .before .before .a .given .1) in omega (arith, d .numbers, f .0 .begun, c .before .before .before .before .put-operator2 .ensures .0, operator-two (c .before .before .before .before .before .before .before .a .given .0 .1 .1 .1 .1 .0))
 
 -- src/stretch.rt:85:45
 sub-mask : tie.Need-sub-mask Inv-loop μ-loop
-sub-mask c = ?
+sub-mask c = let d = head (c .before .before .before .before .before .before .before .before .before .before .before .before) in let f = asks _ _ _ _ _ _ _ _ _ _ _ d (Masks _ _ _ _ _) (c .before .before .before .before .before .before .before .before .before .before .a .given .1) in f .3
 
 -- src/stretch.rt:85:17
 mask-requires : tie.Need-mask-requires Inv-loop μ-loop
-mask-requires c κs = ?
+mask-requires c κs = let d = head (c .before .before .before .before .before .before .before .before .before .before .before .before) in let f = asks _ _ _ _ _ _ _ _ _ _ _ d (Masks _ _ _ _ _) (c .before .before .before .before .before .before .before .before .before .before .a .given .1) in omega (arith, f .0 .begun)
 
 -- src/stretch.rt:60:5
 loop-less-4 : tie.Need-loop-less-4 Inv-loop μ-loop
-loop-less-4 c = ?
+loop-less-4 c = let d = head (c .before .before .before .before .before .before .before .before .before .before .before .before .before) in let f = asks _ _ _ _ _ _ _ _ _ _ _ d (Masks _ _ _ _ _) (c .before .before .before .before .before .before .before .before .before .before .before .a .given .1) in omega (arith, f .0 .begun, f .3, f .4)
 
 -- src/stretch.rt:60:5
 loop-again-4 : tie.Need-loop-again-4 Inv-loop μ-loop
-loop-again-4 c = ?
+loop-again-4 c = let d = head (c .before .before .before .before .before .before .before .before .before .before .before .before .before) in let f = asks _ _ _ _ _ _ _ _ _ _ _ d (Masks _ _ _ _ _) (c .before .before .before .before .before .before .before .before .before .before .before .a .given .1) in (
+      c .before .before .before .before .before .before .before .before .before .before .before .before .before .before .loop .inv .0,
+      c .before .before .before .put-bytes .kept .0 ∙ c .before .before .before .before .before .before .before .before .put-operator2 .kept .0 ∙ c .before .before .before .before .before .before .before .before .before .before .before .before .before .before .loop .inv .1,
+      omega (arith, d .turn .further, f .0 .begun, f .3),
+      arm-mask _ _ _ _ _ _ _ _ _ _ (d .turn) _ _ _ _ _ _ _ _ _ _ f (c .before .before .before .before .before .before .before .before .put-operator2 .ensures .1) (c .before .before .before .before .before .before .before .before .put-operator2 .ensures .0) (c .before .before .before .put-bytes .ensures .1)
+          (c .before .before .before .put-bytes .ensures .0) (c .mask .ensures),
+    )
 
 -- src/stretch.rt:88:28
 enum-known-next-4 : tie.Need-enum-known-next-4 Inv-loop μ-loop
-enum-known-next-4 c = ?
+enum-known-next-4 c = search needs
 
 -- src/stretch.rt:89:17
 same-length : tie.Need-same-length Inv-loop μ-loop
-same-length c = ?
+same-length c = c .before .before .before .before .loop .inv .0
 
 -- src/stretch.rt:89:17
 same-length-2 : tie.Need-same-length-2 Inv-loop μ-loop
-same-length-2 c = ?
+same-length-2 c = c .before .before .before .before .loop .inv .1
 
 -- src/stretch.rt:89:17
 returns : tie.Need-returns Inv-loop μ-loop
-returns c = ?
+returns c = let d = head (c .before .before .before) in let f = asks _ _ _ _ _ _ _ _ _ _ _ d (Calls _ _) (c .before .next4 .given .1) in arm-call _ _ _ _ _ _ _ _ _ _ (d .turn) _ _ f
 
 -- src/stretch.rt:95:30
 enum-told : tie.Need-enum-told Inv-loop μ-loop
-enum-told c = ?
+enum-told c = search needs
 
 -- src/stretch.rt:95:30
 go-back-requires : tie.Need-go-back-requires Inv-loop μ-loop
-go-back-requires c κs = ?
+go-back-requires c κs = let d = head (c .before .before) in let f = asks _ _ _ _ _ _ _ _ _ _ _ d Returns (c .enum-told .given .1) in omega (arith, f .2 .begun)
 
 -- src/stretch.rt:95:17
 ended-requires : tie.Need-ended-requires Inv-loop μ-loop
-ended-requires c κs = ?
+ended-requires c κs = tt
 
 -- src/stretch.rt:95:17
 same-length-3 : tie.Need-same-length-3 Inv-loop μ-loop
-same-length-3 c = ?
+same-length-3 c = c .before .before .before .before .before .loop .inv .0
 
 -- src/stretch.rt:95:17
 same-length-4 : tie.Need-same-length-4 Inv-loop μ-loop
-same-length-4 c = ?
+same-length-4 c = c .before .before .before .before .before .loop .inv .1
 
 -- src/stretch.rt:95:17
 returns-2 : tie.Need-returns-2 Inv-loop μ-loop
-returns-2 c = ?
+returns-2 c = let d = head (c .before .before .before .before) in let f = asks _ _ _ _ _ _ _ _ _ _ _ d Returns (c .before .before .enum-told .given .1) in 
+    arm-return _ _ _ _ _ _ _ _ _ _ (d .turn) _ (c .ended .ensures ∙ ap (λ (y : State). record { st = y; stop = Finished Back }) (c .before .go-back .ensures)) f
 
 -- src/stretch.rt:97:27
 enum-known-p : tie.Need-enum-known-p Inv-loop μ-loop
-enum-known-p c = ?
+enum-known-p c = search needs
 
 -- src/stretch.rt:98:21
 put-operator-requires-3 : tie.Need-put-operator-requires-3 Inv-loop μ-loop
-put-operator-requires-3 c κs = ?
+put-operator-requires-3 c κs = let d = head (c .before .before .before .before) in let f = asks _ _ _ _ _ _ _ _ _ _ _ d (Ends _) (c .before .before .p .given .1) in omega (arith, d .numbers, f .1 .begun)
 
 -- src/stretch.rt:99:30
 finish-requires : tie.Need-finish-requires Inv-loop μ-loop
-finish-requires c κs = ?
+finish-requires c κs = let d = head (c .before .before .before .before .before .before .before) in let f = asks _ _ _ _ _ _ _ _ _ _ _ d (Ends _) (c .before .before .before .before .before .p .given .1) in omega (arith, f .1 .begun)
 
 -- src/stretch.rt:99:17
 ended-requires-2 : tie.Need-ended-requires-2 Inv-loop μ-loop
-ended-requires-2 c κs = ?
+ended-requires-2 c κs = tt
 
 -- src/stretch.rt:99:17
 same-length-5 : tie.Need-same-length-5 Inv-loop μ-loop
-same-length-5 c = ?
+same-length-5 c = c .before .before .before .before .before .before .before .before .before .before .loop .inv .0
 
 -- src/stretch.rt:99:17
 same-length-6 : tie.Need-same-length-6 Inv-loop μ-loop
-same-length-6 c = ?
+same-length-6 c = c .before .before .before .before .put-operator3 .kept .0 ∙ c .before .before .before .before .before .before .before .before .before .before .loop .inv .1
 
 -- src/stretch.rt:99:17
 returns-3 : tie.Need-returns-3 Inv-loop μ-loop
-returns-3 c = ?
+returns-3 c = let d = head (c .before .before .before .before .before .before .before .before .before) in let f = asks _ _ _ _ _ _ _ _ _ _ _ d (Ends _) (c .before .before .before .before .before .before .before .p .given .1) in 
+    arm-end _ _ _ _ _ _ _ _ _ _ (d .turn) _ _ _ _ (c .ended2 .ensures ∙ ap (λ (y : State). record { st = y; stop = Finished Ended }) (c .before .finish .ensures)) f
+    (c .before .before .before .before .put-operator3 .ensures .1) (c .before .before .before .before .put-operator3 .ensures .0)
 
 -- src/stretch.rt:102:34
 enum-told-2 : tie.Need-enum-told-2 Inv-loop μ-loop
-enum-told-2 c = ?
+enum-told-2 c = search needs
 
 -- src/stretch.rt:102:17
 ended-requires-3 : tie.Need-ended-requires-3 Inv-loop μ-loop
-ended-requires-3 c κs = ?
+ended-requires-3 c κs = tt
 
 -- src/stretch.rt:102:17
 same-length-7 : tie.Need-same-length-7 Inv-loop μ-loop
-same-length-7 c = ?
+same-length-7 c = c .before .before .before .before .loop .inv .0
 
 -- src/stretch.rt:102:17
 same-length-8 : tie.Need-same-length-8 Inv-loop μ-loop
-same-length-8 c = ?
+same-length-8 c = c .before .before .before .before .loop .inv .1
 
 -- src/stretch.rt:102:17
 returns-4 : tie.Need-returns-4 Inv-loop μ-loop
-returns-4 c = ?
+returns-4 c = let d = head (c .before .before .before) in let f = asks _ _ _ _ _ _ _ _ _ _ _ d Empty (c .before .enum-told2 .given .1) in arm-out _ _ _ _ _ _ _ _ _ _ (d .turn) _ (c .ended3 .ensures) f
 
 -- src/stretch.rt:104:26
 enum-known-k : tie.Need-enum-known-k Inv-loop μ-loop
-enum-known-k c = ?
+enum-known-k c = search needs
 
 -- src/stretch.rt:105:17
 ended-requires-4 : tie.Need-ended-requires-4 Inv-loop μ-loop
-ended-requires-4 c κs = ?
+ended-requires-4 c κs = tt
 
 -- src/stretch.rt:105:17
 same-length-9 : tie.Need-same-length-9 Inv-loop μ-loop
-same-length-9 c = ?
+same-length-9 c = c .before .before .before .before .before .loop .inv .0
 
 -- src/stretch.rt:105:17
 same-length-10 : tie.Need-same-length-10 Inv-loop μ-loop
-same-length-10 c = ?
+same-length-10 c = c .before .before .before .before .before .loop .inv .1
 
 -- src/stretch.rt:105:17
 returns-5 : tie.Need-returns-5 Inv-loop μ-loop
-returns-5 c = ?
+returns-5 c = let d = head (c .before .before .before .before) in let f = asks _ _ _ _ _ _ _ _ _ _ _ d (Bad _) (c .before .before .k .given .1) in arm-bad _ _ _ _ _ _ _ _ _ _ (d .turn) _ _ (c .ended4 .ensures) f
 
 pub stretch-spec : {M : Type 1} → statement M
 stretch-spec =

@@ -1,0 +1,192 @@
+-- What a turn of `run` comes to, whatever state of the reading it started from: a stretch that ends the string, and a call. Assumes nothing.
+use mathlib.Core.Path.{_≡_, refl, sym, ap, subst, _∙_}
+use mathlib.Core.List.{List}
+use Prim.Native.Nat.{ℕ, _+_, _-_, _≤_, _<_}
+use native.Mathlib.Omega.{arith}
+use lib.ListN.{length, getD, take, drop}
+use Rattle.number.specs.Number.{charstringRows}
+use Rattle.number.specs.Written.{spelling}
+use Rattle.number.specs.declared.Operand.{Operand}
+use Rattle.reading.specs.Rules.{meant}
+use Rattle.reading.specs.Lists.{listed, subrsOf, listsOf}
+use Rattle.reading.specs.Tokens.{Bytes}
+use Rattle.reading.specs.Reading.{State as Now}
+use Rattle.reading.specs.SameGlyphLaws.{lists-bytes}
+use Rattle.reading.specs.declared.Refusal.{Refusal}
+use Rattle.reading.specs.declared.Which.{Which}
+use Rattle.reading.specs.declared.Which.the-variants.{Local, Global}
+use Rattle.charstring.specs.Words.{unpackOf, aimed, targetOf, Inside}
+use Rattle.charstring.specs.States.{entered}
+use Rattle.charstring.specs.Run.{CallsAt, Repr, Here, Roomy, Reached, Standing, StretchesTo, chosen, chosenCount, Setting, Sound, around, RunsTo}
+use Rattle.charstring.specs.HereLaws.{begin}
+use Rattle.charstring.specs.EnterLaws.{Named, by-no, found, deeper, inner-repr, index-fits, came-back, passed-on}
+use Rattle.charstring.specs.StretchLaws.{Safe, safe-here}
+use Rattle.charstring.specs.declared.state.State.{State}
+use Rattle.charstring.specs.declared.look.Limits.{Limits}
+use Rattle.charstring.specs.declared.stretch.Ending.{Ending}
+use Rattle.charstring.specs.declared.stretch.Ending.the-variants.{Back, Ended, Refused}
+use Rattle.charstring.specs.declared.stretch.Stop.{Stop}
+use Rattle.charstring.specs.declared.stretch.Stop.the-variants.{Done as Finished, Call as Calling}
+use Rattle.charstring.specs.declared.stretch.Ran.{Ran}
+use Rattle.charstring.specs.declared.stretch.Stretched.{Stretched}
+use Rattle.charstring.specs.declared.subroutines.Target.{Target}
+use Rattle.charstring.specs.declared.subroutines.Target.the-variants.{Enter, No}
+
+module _ (cs globals locals : List ℕ) (by : Limits) (levels : ℕ) (stack₀ out₀ : List ℕ) (s₀ : State) where
+  -- what is asked of each state of the reading that the first state stands for
+  abbrev pub Each : (Now → Type 0) → Type 0
+  Each P = (t : Now) → Repr (meant (by .rules)) stack₀ out₀ s₀ t → P t
+
+  -- the loop stands at i with this state
+  abbrev pub Stands : List ℕ → List ℕ → State → ℕ → Type 0
+  Stands stack out s i = Each (λ t. Here (around cs globals locals by levels t) stack out s i)
+
+  abbrev pub Gives : Ran → List ℕ → List ℕ → Type 0
+  Gives r stack out = RunsTo cs globals locals by s₀ stack₀ out₀ levels r stack out
+
+  pub begins : Bytes cs → Bytes globals → Bytes locals → Stands stack₀ out₀ s₀ 0
+  begins b g l = λ t r. begin (around cs globals locals by levels t) stack₀ out₀ s₀ (lists-bytes (meant (by .rules) .width) globals locals g l) b r
+
+  pub record Turn (stack out : List ℕ) (s : State) (i : ℕ) : Type 0 where
+    pub same-stack : length stack ≡ length stack₀
+    pub setting : Setting globals locals by stack₀
+    pub sound : Sound by stack₀ out₀ s₀
+    pub stands : Stands stack out s i
+
+  module _ (stack out : List ℕ) (s : State) (i : ℕ) (h : Turn stack out s i) where
+    pub roomy-now : Roomy by stack
+    roomy-now =
+        let r = h .setting .roomy in
+        let e = h .same-stack in
+        record { few-hints = r .few-hints; few-words = let x = r .few-words in omega arith; operands-fit = let x = r .operands-fit in omega arith }
+
+    pub setting-now : (stack₁ : List ℕ) → length stack₁ ≡ length stack → Setting globals locals by stack₁
+    setting-now stack₁ e =
+        let r = roomy-now in
+        record {
+          roomy =
+              record { few-hints = r .few-hints; few-words = let x = r .few-words in omega arith; operands-fit = let x = r .operands-fit in omega arith };
+          global-count = h .setting .global-count;
+          local-count = h .setting .local-count;
+        }
+
+    pub stands-on : Standing cs by stack out s i
+    unfolding Standing Sound
+    stands-on = (_, h .stands (h .sound .0) (h .sound .1))
+
+    -- ---- a stretch from there
+
+    module _ (r : Stretched) (stack₁ out₁ : List ℕ) (d : StretchesTo cs by stack out s i r stack₁ out₁) where
+      -- it ended the string
+      pub arm-done : (how : Ending) → r .stop ≡ Finished how → Gives (record { how = how; st = r .st }) stack₁ out₁
+      unfolding StretchesTo RunsTo
+      arm-done how e = λ t p. subst (λ (x : Stop). Reached cs by _ i stack₁ out₁ (r .st) x) e (d _ (h .stands t p))
+
+      -- it stands before a call
+      abbrev pub Before : ℕ → Which → Type 0
+      Before next w = Each (λ t. (j : ℕ) × (i ≤ j) × Here (around cs globals locals by levels t) stack₁ out₁ (r .st) j
+          × CallsAt (meant (by .rules)) cs j (by .budget) (r .st) next w)
+
+      pub before : (next : ℕ) (w : Which) → r .stop ≡ Calling next w → Before next w
+      unfolding StretchesTo
+      before next w e = λ t p. subst (λ (x : Stop). Reached cs by _ i stack₁ out₁ (r .st) x) e (d _ (h .stands t p))
+
+      module _ (same : length stack₁ ≡ length stack) (next : ℕ) (w : Which) (b : Before next w) where
+        -- the numbers that the code's arithmetic goes by
+        pub record Numbers : Type 0 where
+          pub numbers : Safe stack₁ (r .st)
+          pub some : 0 < r .st .count
+          pub begun : r .st .tokens < by .budget
+          pub ahead : i < next
+          pub inside : next ≤ length cs
+
+        pub safe : Numbers
+        unfolding Sound
+        safe =
+            let x = b (h .sound .0) (h .sound .1) in
+            let q = roomy-now in
+            let a = x .3 .1 .begun in
+            record {
+              numbers = safe-here _ stack₁ out₁ (r .st) (x .0) (x .2) (q .few-hints) (let k = q .few-words in omega arith);
+              some = x .3 .3;
+              begun = a .within;
+              ahead = let k = x .1 in let l = a .ahead in omega arith;
+              inside = a .inside;
+            }
+
+        -- its operand, its list, and what was aimed at
+        abbrev operand-of : Operand
+        operand-of = unpackOf (getD stack₁ (r .st .count - 1) 0)
+
+        abbrev list-of : List ℕ
+        list-of = chosen w globals locals
+
+        abbrev pub Aims : Target → Type 0
+        Aims x = targetOf x ≡ aimed (meant (by .rules)) list-of (chosenCount w by) operand-of levels (r .st .tail)
+
+        named : (t : Now) → Named (around cs globals locals by levels t) w list-of (chosenCount w by)
+        unfolding listsOf
+        named t = by-which w
+          where
+            by-which : (v : Which) → Named (around cs globals locals by levels t) v (chosen v globals locals) (chosenCount v by)
+            by-which Local = record { is-list = refl; is-count = h .setting .local-count }
+            by-which Global = record { is-list = refl; is-count = h .setting .global-count }
+
+        pub arm-no : (k : Refusal) → Aims (No k) → Gives (record { how = Refused k; st = r .st }) stack₁ out₁
+        unfolding RunsTo
+        arm-no k e = λ t p. let x = b t p in by-no _ stack₁ out₁ (r .st) (x .0) (x .2) w next (x .3) list-of (chosenCount w by) (named t) k e
+
+        module _ (from to : ℕ) (e : Aims (Enter from to)) where
+          abbrev pub body-of : List ℕ
+          body-of = take (to - from) (drop from list-of)
+
+          -- what the code's arithmetic goes by at an entry
+          pub index-there : (length (spelling charstringRows operand-of) ≤ r .st .length) × (0 < r .st .tail) × (levels ≡ 0 → ⊥)
+          unfolding Sound
+          index-there =
+              let t = h .sound .0 in
+              let x = b t (h .sound .1) in
+              let m = index-fits _ stack₁ out₁ (r .st) (x .0) (x .2) w next (x .3) list-of (chosenCount w by) (named t) from to e in
+              let g = found _ stack₁ out₁ (r .st) (x .0) (x .2) w next (x .3) list-of (chosenCount w by) (named t) from to e in
+              (m, g .some-last, g .levels-left)
+
+          module _ (size : ℕ) (q : size ≡ length (spelling charstringRows operand-of)) where
+            inner : (t : Now) (p : Repr (meant (by .rules)) stack₀ out₀ s₀ t) → let x = b t p in
+                Repr (meant (by .rules)) stack₁ out₁ (entered (r .st) size)
+                (deeper (around cs globals locals by levels t) stack₁ out₁ (r .st) (x .0) (x .2) w next (x .3) list-of (chosenCount w by) (named t) from to e .start)
+            inner t p =
+                let x = b t p in
+                inner-repr _ stack₁ out₁ (r .st) (x .0) (x .2) w next (x .3) list-of (chosenCount w by) (named t) from to e size q
+
+            -- the entry's state stands for one of the reading
+            pub inside-sound : Sound by stack₁ out₁ (entered (r .st) size)
+            unfolding Sound
+            inside-sound = (_, inner (h .sound .0) (h .sound .1))
+
+            module _ (r₁ : Ran) (stack₂ out₂ : List ℕ) (ran : RunsTo body-of globals locals by (entered (r .st) size) stack₁ out₁ (levels - 1) r₁ stack₂ out₂) where
+              pub arm-back : r₁ .how ≡ Back → Stands stack₂ out₂ (r₁ .st) next
+              unfolding RunsTo
+              arm-back c = λ t p.
+                  let x = b t p in
+                  came-back _ stack₁ out₁ (r .st) (x .0) (x .2) w next (x .3) list-of (chosenCount w by) (named t) from to e r₁ stack₂ out₂ (ran _ (inner t p)) c
+
+              pub arm-passed : (r₁ .how ≡ Back → ⊥) → Gives r₁ stack₂ out₂
+              unfolding RunsTo
+              arm-passed n = λ t p.
+                  let x = b t p in
+                  passed-on _ stack₁ out₁ (r .st) (x .0) (x .2) w next (x .3) list-of (chosenCount w by) (named t) from to e r₁ stack₂ out₂ (ran _ (inner t p)) n
+
+-- ---- what the code found, in these words
+
+-- a target, by what it was aimed with
+pub aims-at : (rules : _) (l l′ : List ℕ) (n n′ : ℕ) (o o′ : Operand) (levels tail : ℕ) (r x : Target) → l ≡ l′ → n ≡ n′ → o ≡ o′ → r ≡ x
+    → targetOf r ≡ aimed rules l n o levels tail → targetOf x ≡ aimed rules l′ n′ o′ levels tail
+aims-at rules l l′ n n′ o o′ levels tail r x e₁ e₂ e₃ e₄ q =
+    ap targetOf (sym e₄) ∙ q ∙ ap (λ (y : List ℕ). aimed rules y n o levels tail) e₁ ∙ ap (λ (y : ℕ). aimed rules l′ y o levels tail) e₂
+    ∙ ap (λ (y : Operand). aimed rules l′ n′ y levels tail) e₃
+
+pub ended-goes : (e : Ending) → e ≡ Ended → e ≡ Back → ⊥
+ended-goes e p q = let w : _≡_ {A = ℕ} 0 1 = cc in omega arith
+
+pub refused-goes : (e : Ending) (k : Refusal) → e ≡ Refused k → e ≡ Back → ⊥
+refused-goes e k p q = let w : _≡_ {A = ℕ} 0 1 = cc in omega arith
