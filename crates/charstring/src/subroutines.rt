@@ -33,8 +33,9 @@ pub(crate) fn aim(
     ensures { λ r. ⌜ targetOf r ≡ aimed (meant rules) (now (list .entry)) count o levels tail ⌝ }
     ensures { λ r. ⌜ Inside (length (now (list .entry))) r ⌝ }
 {
+    let width = rules.width;
     match callee_of(o, rules.exact, count) {
-        Callee::Entry(k) => admit(list, rules.width, k, levels, tail),
+        Callee::Entry(k) => admit(list, width, k, levels, tail),
         Callee::NotWhole => Target::No(Refusal::NoIndex),
         Callee::Outside => Target::No(Refusal::NoEntry),
     }

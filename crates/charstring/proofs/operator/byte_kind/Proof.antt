@@ -2,8 +2,8 @@ use mathlib.Core.Path.{sym, ap}
 use borrow.Author.Needs.{needs}
 use Rattle.reading.specs.Rules.{byteKind}
 use Rattle.charstring.proofs.Operators.{unknown}
-use Rattle.charstring.proofs.operator.plain_kind.Statement.{statement}
-use Rattle.charstring.proofs.operator.plain_kind.Tie as tie
+use Rattle.charstring.proofs.operator.byte_kind.Statement.{statement}
+use Rattle.charstring.proofs.operator.byte_kind.Tie as tie
 
 clears-requires : tie.Need-clears-requires
 clears-requires c κs = search needs
@@ -58,5 +58,5 @@ returns-12 c =
     (n .0 .0 .0 .0 .0 .0 .0 .0 .0 .1, (n .0 .0 .0 .0 .0 .0 .0 .0 .1, (n .0 .0 .0 .0 .1, (n .0 .1, tt)))) (n .0 .0 .0 .1, (n .0 .0 .1, tt))
     (n .0 .0 .0 .0 .0 .0 .0 .1, (n .1, (n .0 .0 .0 .0 .0 .0 .1, (n .0 .0 .0 .0 .0 .1, tt))))
 
-pub plain-kind-spec : {M : Type 1} → statement M
-plain-kind-spec = tie.close (tie.spec clears-requires returns returns-2 returns-3 returns-4 returns-5 returns-6 returns-7 returns-8 returns-9 returns-10 returns-11 returns-12)
+pub byte-kind-spec : {M : Type 1} → statement M
+byte-kind-spec = tie.close (tie.spec clears-requires returns returns-2 returns-3 returns-4 returns-5 returns-6 returns-7 returns-8 returns-9 returns-10 returns-11 returns-12)
