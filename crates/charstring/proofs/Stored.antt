@@ -4,15 +4,20 @@ use mathlib.Core.Bool.{true, false}
 use mathlib.Core.List.{List, [], _∷_, _++_}
 use Prim.Native.Nat.{ℕ, _+_, _≤_}
 use native.Mathlib.Omega.{arith}
-use lib.ListN.{length, take, drop}
+use lib.ListN.{length, take, drop, length-append, take-append-drop}
 use lib.Seq.{take-append-seam, sets}
 use Rattle.number.specs.Answer.{Values, Answer, accepted, refused, mapped, leaving, sized, into}
 use Rattle.number.specs.AnswerLaws.{refused-accepted, accepted-same, answer-as, left-as, into-fits}
 use Rattle.number.specs.Number.{charstringRows}
-use Rattle.number.specs.Written.{bytes, bytesBy, spell, spelling, write}
+use Rattle.number.specs.Written.{bytes, bytesBy, spell, spelling, write, numberWritten}
 use Rattle.number.specs.RoundTrip.{spelling-most}
 use Rattle.number.specs.declared.Operand.{Operand}
 use Rattle.number.specs.declared.write.Form.{Form}
+use Rattle.number.specs.declared.write.NumberWritten.{NumberWritten}
+use Rattle.number.specs.declared.write.NumberWritten.the-variants.{Bytes, NoRoom, Outside}
+use Rattle.number.proofs.write.NumberWritten as written-type
+use denote.Enum.Declared.{tagOf}
+use types.Run.{OneOf, miss}
 use Rattle.reading.specs.Flat.{operatorBytes}
 use Rattle.reading.specs.declared.Operator.{Operator}
 use Rattle.charstring.specs.WordsLaws.{sets-append}
@@ -39,6 +44,20 @@ module _ (p : Operator) where
 
 -- ---- an operand's bytes in the first room
 
+-- the first n bytes of a list are these
+pub record Starts (n : ℕ) (l bs : List ℕ) : Type 0 where
+  pub count : n ≡ length bs
+  pub first : take n l ≡ bs
+
+pub starts-long : (n : ℕ) (l bs : List ℕ) → Starts n l bs → n ≡ length (take n l)
+starts-long n l bs h = h .count ∙ ap length (sym (h .first))
+
+pub starts-within : (n : ℕ) (l bs : List ℕ) → Starts n l bs → n ≤ length l
+starts-within n l bs h =
+    let long = starts-long n l bs h in
+    let all : length (take n l ++ drop n l) ≡ length l = ap length (take-append-drop n l) in
+    omega (arith, length-append (take n l) (drop n l))
+
 module _ (room : List ℕ) where
   -- what the room leaves of a form that it takes
   placed : (f : Form) → length (bytes f) ≤ length room
@@ -48,14 +67,13 @@ module _ (room : List ℕ) where
   abbrev Leaves : Answer Form → Answer ℕ → List ℕ → Type 0
   Leaves x a l = leaving a l ≡ into room (mapped (λ (f : Form). sized (bytes f)) x)
 
-  some-left : (x : Answer Form) → length (bytesBy x) ≤ length room → (n : ℕ) (l : List ℕ) → Leaves x (accepted n) l
-      → (n ≡ length (bytesBy x)) × (take n l ≡ bytesBy x)
+  some-left : (x : Answer Form) → length (bytesBy x) ≤ length room → (n : ℕ) (l : List ℕ) → Leaves x (accepted n) l → Starts n l (bytesBy x)
   unfolding bytesBy into
   some-left (refused k v) h n l e = refused-accepted (sym (answer-as e))
   some-left (accepted f) h n l e =
       let n-is : n ≡ length (bytes f) = accepted-same (answer-as (e ∙ placed f h)) in
       let l-is : l ≡ bytes f ++ drop (length (bytes f)) room = left-as (e ∙ placed f h) in
-      (n-is, rw (n-is, l-is) (take-append-seam (bytes f) (drop (length (bytes f)) room)))
+      record { count = n-is; first = rw (n-is, l-is) (take-append-seam (bytes f) (drop (length (bytes f)) room)) }
 
   none-left : (x : Answer Form) → length (bytesBy x) ≤ length room → (n : ℕ) (v : Values) (l : List ℕ) → Leaves x (refused n v) l → [] ≡ bytesBy x
   unfolding bytesBy into
@@ -63,11 +81,17 @@ module _ (room : List ℕ) where
   none-left (accepted f) h n v l e = refused-accepted (answer-as (e ∙ placed f h))
 
   module _ (five : length room ≡ 5) (o : Operand) where
-    pub some-written : (n : ℕ) (l : List ℕ) → leaving (accepted n) l ≡ write charstringRows o room
-        → (n ≡ length (spelling charstringRows o)) × (take n l ≡ spelling charstringRows o)
-    unfolding write spelling
-    some-written n l e = let h = spelling-most false o in some-left (spell charstringRows o) (omega arith) n l e
+    big : length (spelling charstringRows o) ≤ length room
+    big = let h = spelling-most false o in omega arith
 
-    pub none-written : (n : ℕ) (v : Values) (l : List ℕ) → leaving (refused n v) l ≡ write charstringRows o room → [] ≡ spelling charstringRows o
+    pub some-written : (r : NumberWritten) (l : List ℕ) → leaving (numberWritten r) l ≡ write charstringRows o room → (n : ℕ) → r ≡ Bytes n
+        → Starts n l (spelling charstringRows o)
     unfolding write spelling
-    none-written n v l e = let h = spelling-most false o in none-left (spell charstringRows o) (omega arith) n v l e
+    some-written r l e n q = some-left (spell charstringRows o) big n l (ap (λ (x : NumberWritten). leaving (numberWritten x) l) (sym q) ∙ e)
+
+    pub none-written : (r : NumberWritten) (l : List ℕ) → leaving (numberWritten r) l ≡ write charstringRows o room
+        → OneOf (1 ∷ 2 ∷ []) (tagOf written-type.the-type r) → [] ≡ spelling charstringRows o
+    unfolding write spelling
+    none-written (Bytes n) l e k = absurd (miss (1 ∷ 2 ∷ []) 0 tt k)
+    none-written (NoRoom n) l e k = none-left (spell charstringRows o) big _ _ l e
+    none-written Outside l e k = none-left (spell charstringRows o) big _ _ l e

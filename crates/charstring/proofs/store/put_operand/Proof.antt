@@ -1,5 +1,7 @@
-use native.Mathlib.Omega.{arith}
-use Rattle.charstring.proofs.Stored.{stored-as, stored-none, some-written, none-written}
+use Rattle.charstring.proofs.Stored.{stored-as, stored-none, Starts, starts-long, starts-within, some-written, none-written}
+use Rattle.number.specs.Number.{charstringRows}
+use Rattle.number.specs.Written.{spelling}
+use mathlib.Core.Path.{refl}
 use borrow.Author.Needs.{needs}
 use Rattle.charstring.proofs.store.put_operand.Statement.{statement}
 use Rattle.charstring.proofs.store.put_operand.Tie as tie
@@ -7,6 +9,10 @@ use Rattle.charstring.proofs.store.put_operand.Reads as reads
 use Rattle.charstring.proofs.store.put_operand.Lts as lts
 use Rattle.charstring.proofs.store.put_bytes.Reads as put-bytes-reads
 use Rattle.number.proofs.write_charstring_number.Reads as write-charstring-number-reads
+
+-- where the bytes are held
+written : (c : tie.After-n) → Starts (c .n .given .0 .0) (c .before .before .before .write-charstring-number .last .1 .0) (spelling charstringRows (c .before .before .before .before .before .before .args .o))
+written c = some-written _ refl _ _ _ (c .before .before .before .write-charstring-number .ensures) _ (c .n .given .1)
 
 slice-aggregate-write-charstring-number : tie.Need-slice-aggregate-write-charstring-number
 slice-aggregate-write-charstring-number c = search needs
@@ -18,13 +24,13 @@ enum-known-n : tie.Need-enum-known-n
 enum-known-n c = search needs
 
 returns : tie.Need-returns
-returns c = ?
+returns c = stored-none _ _ (none-written _ refl _ (c .before .before .write-charstring-number .result) _ (c .before .before .write-charstring-number .ensures) (c .match .keys2))
 
 array-share-prefix-held : tie.Need-array-share-prefix-held
-array-share-prefix-held c = ?
+array-share-prefix-held c = starts-within _ _ _ (written (c .before .before))
 
 slice-aggregate-put-bytes : tie.Need-slice-aggregate-put-bytes
-slice-aggregate-put-bytes c = ?
+slice-aggregate-put-bytes c = starts-long _ _ _ (written (c .before .before .before))
 
 put-bytes-requires : tie.Need-put-bytes-requires
 put-bytes-requires c κs = search needs
@@ -33,7 +39,7 @@ same-length : tie.Need-same-length
 same-length c = search needs
 
 returns-2 : tie.Need-returns-2
-returns-2 c = ?
+returns-2 c = stored-as _ _ (written (c .before .before .before .before .before .before) .first) (c .before .before .put-bytes .ensures .0) (c .before .before .put-bytes .ensures .1)
 
 pub put-operand-spec : {M : Type 1} → statement M
 put-operand-spec =

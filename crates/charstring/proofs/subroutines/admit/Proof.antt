@@ -40,10 +40,10 @@ enum-known-start : tie.Need-enum-known-start
 enum-known-start c = search needs
 
 returns : tie.Need-returns
-returns c = (none-read _ _ _ (c .before .read-entry .result) (c .match .keys2) (c .before .read-entry .ensures), tt)
+returns c = (none-read _ (c .before .before .before .args .tail) _ (c .before .read-entry .result) (c .match .keys2) (c .before .read-entry .ensures), tt)
 
 returns-2 : tie.Need-returns-2
-returns-2 c = (too-deep _ _ _ _ _ (lies-at (c .before .before)) (c .if1 .taken), tt)
+returns-2 c = (too-deep _ (c .before .before .before .before .before .before .args .tail) _ _ _ (lies-at (c .before .before)) (c .if1 .taken), tt)
 
 returns-3 : tie.Need-returns-3
 returns-3 c = (not-last _ _ _ _ _ (lies-at (c .before .before .before)) (c .before .if1 .left) (c .if2 .taken), tt)
