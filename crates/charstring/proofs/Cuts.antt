@@ -20,10 +20,12 @@ use Rattle.number.specs.Written.{spelling}
 use Rattle.number.specs.KeptLaws.{one-kept, two-kept}
 use Rattle.number.specs.declared.Operand.{Operand}
 use Rattle.charstring.specs.Words.{operandIn, shortOf}
-use Rattle.charstring.specs.Run.{Spelt, clears as Clearing, Looked}
-use Rattle.charstring.specs.declared.look.Request.the-variants.{Plain, Short}
-use Rattle.charstring.proofs.Operators.{clears-alone, plain-is}
-use Rattle.reading.specs.Rules.{byteKind}
+use Rattle.charstring.specs.Run.{Spelt, stays, Looked}
+use Rattle.charstring.specs.declared.look.Request.the-variants.{Clears, Short}
+use Rattle.charstring.proofs.Operators.{clears-alone, byte-is}
+use Rattle.charstring.specs.declared.state.State.{State}
+use Rattle.reading.specs.Rules.{Rules, byteKind, meant}
+use Rattle.reading.specs.declared.Rules.{Rules as CodeRules}
 use Rattle.reading.specs.declared.Operator.{Operator}
 use Rattle.reading.specs.declared.Kind.the-variants.{Clear}
 use Rattle.reading.specs.Tokens.{number, operator, token, lacking, escapedAt, operatorAt, cutBy, cut}
@@ -35,8 +37,8 @@ module _ (cs : List ℕ) (i : ℕ) (h : i < length cs) where
   unfolding operatorAt
   opened = rw (drop-cons cs i 0 h)
 
-  pub plain-at : (getD cs i 0 ≡ 12 → ⊥) → token (operator (record { escaped = false; byte = getD cs i 0 })) (drop (i + 1) cs) ≡ operatorAt (drop i cs)
-  plain-at n = rw (opened, ne-eqb (getD cs i 0) 12 n, add-one i)
+  pub byte-at : (getD cs i 0 ≡ 12 → ⊥) → token (operator (record { escaped = false; byte = getD cs i 0 })) (drop (i + 1) cs) ≡ operatorAt (drop i cs)
+  byte-at n = rw (opened, ne-eqb (getD cs i 0) 12 n, add-one i)
 
   twelve : getD cs i 0 ≡ 12 → operatorAt (drop i cs) ≡ escapedAt (drop (suc i) cs)
   twelve e = rw (opened, eq-eqb (getD cs i 0) 12 e)
@@ -164,9 +166,9 @@ module _ (cs : List ℕ) (i : ℕ) (h : i + 1 < length cs) (low : 31 < getD cs i
       ∙ ap (token (number short-here)) (drop-drop (wideOf (getD cs i 0)) i cs)
 
   -- what it asks for
-  pub short-looked : (budget operands limit tokens count hints mask next : ℕ) → tokens < budget → count < operands → getD cs (i + 1) 0 < 256
-      → next ≡ i + wideOf (getD cs i 0) → Looked cs i budget operands limit tokens count hints mask (Short next (getD cs i 0) (getD cs (i + 1) 0))
-  short-looked budget operands limit tokens count hints mask next t c x e =
+  pub short-looked : (rules : Rules) (budget : ℕ) (s : State) (next : ℕ) → s .tokens < budget → s .count < rules .operands → getD cs (i + 1) 0 < 256
+      → next ≡ i + wideOf (getD cs i 0) → Looked rules cs i budget s (Short next (getD cs i 0) (getD cs (i + 1) 0))
+  short-looked rules budget s next t c x e =
       let w = one-or-two (getD cs i 0) in
       let wide : wideOf (getD cs i 0) ≡ next - i = omega arith in (
         (record { ahead = omega arith; inside = omega arith; within = t }, short-at ∙ ap (λ (j : ℕ). token (number short-here) (drop j cs)) (sym e), c),
@@ -188,11 +190,10 @@ module _ (cs : List ℕ) (i : ℕ) (h : i < length cs) (c : Clear ≡ byteKind (
 
   clear-at : cut (drop i cs) ≡ token (operator operator-here) (drop (i + 1) cs)
   clear-at =
-      sym (plain-at cs i h (clears-alone (getD cs i 0) c .0) ∙ operator-there cs i h (sym no-number ∙ ap (readBy charstringRows) (sym (all-behind cs i h))))
+      sym (byte-at cs i h (clears-alone (getD cs i 0) c .0) ∙ operator-there cs i h (sym no-number ∙ ap (readBy charstringRows) (sym (all-behind cs i h))))
 
-  pub clear-looked : (budget operands limit tokens count hints mask : ℕ) → tokens < budget
-      → Looked cs i budget operands limit tokens count hints mask (Plain (i + 1) hints operator-here)
-  clear-looked budget operands limit tokens count hints mask t = (
+  pub clear-looked : (rules : CodeRules) (budget : ℕ) (s : State) → s .tokens < budget → Looked (meant rules) cs i budget s (Clears (i + 1) (s .hints) operator-here)
+  clear-looked rules budget s t = (
     record { begun = record { ahead = omega arith; inside = omega arith; within = t }; cut-is = clear-at },
-    Clearing (sym (c ∙ plain-is operator-here refl)) refl,
+    stays (sym (c ∙ byte-is operator-here refl)) refl,
   )

@@ -65,6 +65,6 @@ module _ (p : Operator) where
   unfolding type2
   escaped-is e = rw e
 
-  pub plain-is : p .escaped ≡ false → byteKind (p .byte) ≡ type2 p
+  pub byte-is : p .escaped ≡ false → byteKind (p .byte) ≡ type2 p
   unfolding type2
-  plain-is e = rw e
+  byte-is e = rw e

@@ -11,7 +11,7 @@ use mir.Syntax.{w32}
 use mir.Val.{toZ, ofZ}
 use Rattle.number.proofs.Border.{moved}
 use Rattle.number.specs.Signed.{signed, unsigned}
-use Rattle.number.specs.SignedLaws.{signed-unsigned}
+use Rattle.number.specs.SignedLaws.{signed-unsigned, unsigned-lt}
 use Rattle.number.specs.declared.Operand.{Operand}
 use Rattle.charstring.specs.Words.{shortOf, unpackOf}
 
@@ -28,20 +28,23 @@ short-word : (w : ℕ) → w < 65536 → unpackOf w ≡ shortOf (w % 256) (w / 2
 unfolding unpackOf
 short-word w h = rw (lt-ltb w 65536 h)
 
-module _ (o : Operand) (bits : ℕ) (h : mag (o .value) < 2 ^ 31) (b : bits ≡ unsigned (2 ^ 31) (o .value)) (l : bits < 2 ^ 32) where
+module _ (o : Operand) (bits : ℕ) (h : mag (o .value) < 2 ^ 31) (b : bits ≡ unsigned (2 ^ 31) (o .value)) where
+  bits-fit : bits < 2 ^ 32
+  bits-fit = let l = unsigned-lt (2 ^ 31) (o .value) h in omega arith
+
   value-is : (w : ℕ) → w % 4294967296 ≡ bits → signed (2 ^ 31) (w % 4294967296) ≡ o .value
   value-is w e = ap (signed (2 ^ 31)) (e ∙ b) ∙ signed-unsigned (2 ^ 31) (o .value) h
 
   pub packed-fixed : o .fixed ≡ true → unpackOf (8589934592 + bits) ≡ o
   packed-fixed f =
       let t : leb 8589934592 (8589934592 + bits) ≡ o .fixed = le-leb 8589934592 (8589934592 + bits) (omega arith) ∙ sym f in
-      let v = value-is (8589934592 + bits) (omega arith) in
+      let v = value-is (8589934592 + bits) (omega (arith, bits-fit)) in
       long-word (8589934592 + bits) (omega arith) ∙ (λ i. record { fixed = t i; value = v i })
 
   pub packed-integer : o .fixed ≡ false → unpackOf (4294967296 + bits) ≡ o
   packed-integer f =
-      let t : leb 8589934592 (4294967296 + bits) ≡ o .fixed = lt-leb 8589934592 (4294967296 + bits) (omega arith) ∙ sym f in
-      let v = value-is (4294967296 + bits) (omega arith) in
+      let t : leb 8589934592 (4294967296 + bits) ≡ o .fixed = lt-leb 8589934592 (4294967296 + bits) (omega (arith, bits-fit)) ∙ sym f in
+      let v = value-is (4294967296 + bits) (omega (arith, bits-fit)) in
       long-word (4294967296 + bits) (omega arith) ∙ (λ i. record { fixed = t i; value = v i })
 
 pub unpacked : (w : ℕ) (z : ℤ) → 65536 ≤ w → z ≡ signed (2 ^ 31) (w % 4294967296) → _≡_ {A = Operand} (record { fixed = leb 8589934592 w; value = z }) (unpackOf w)
@@ -56,13 +59,3 @@ packed-short b x h k =
 
 pub unpacked-short : (w : ℕ) (o : Operand) → w < 65536 → o ≡ shortOf (w % 256) (w / 256) → o ≡ unpackOf w
 unpacked-short w o h e = e ∙ sym (short-word w h)
-
--- the number that has these bits
-module _ (bits : ℕ) where
-  pub low-bits : bits < 2 ^ 31 → pos bits ≡ signed (2 ^ 31) bits
-  unfolding signed
-  low-bits h = rw (lt-ltb bits 2147483648 h)
-
-  pub high-bits : 2 ^ 31 ≤ bits → bits < 2 ^ 32 → negsuc (4294967295 - bits) ≡ signed (2 ^ 31) bits
-  unfolding signed
-  high-bits h k = rw (le-ltb bits 2147483648 h, lt-ltb bits 4294967296 k) (ap negsuc (omega arith))

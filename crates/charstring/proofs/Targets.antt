@@ -1,7 +1,6 @@
 -- The entry that a call enters. Assumes nothing.
 use mathlib.Core.Path.{_≡_}
-use mathlib.Core.Bool.{Bool}
-use mathlib.Core.List.{List, []}
+use mathlib.Core.List.{List}
 use Prim.Native.Nat.{ℕ, _+_, _-_}
 use native.Mathlib.Nat.{add-sub-cancel-left}
 use native.Mathlib.Omega.{arith}
@@ -11,34 +10,37 @@ use Rattle.number.specs.Call.{callee}
 use Rattle.number.specs.declared.Operand.{Operand}
 use Rattle.index.specs.Index.{Place, place}
 use Rattle.index.specs.IndexLaws.{lies}
-use Rattle.charstring.specs.Words.{enterBy, aimBy, aimed}
+use Rattle.reading.specs.Rules.{Rules}
+use Rattle.reading.specs.Reading.{admitted}
+use Rattle.charstring.specs.Words.{enterable, aimBy, aimed}
 
 -- ---- an entry
 
-pub no-entry : (levels tail n : ℕ) (v : Values) (x : Answer Place) → refused n v ≡ x → refused 9 alone ≡ enterBy levels tail x
-unfolding enterBy
+pub no-entry : (levels tail n : ℕ) (v : Values) (x : Answer Place) → refused n v ≡ x → refused 9 alone ≡ enterable levels tail x
+unfolding admitted
 no-entry levels tail n v x e = rw (← e)
 
 module _ (levels tail : ℕ) (start size : ℕ) (x : Answer Place) (e : lies start size ≡ x) where
-  pub too-deep : levels ≡ 0 → refused 10 alone ≡ enterBy levels tail x
-  unfolding enterBy
+  pub too-deep : levels ≡ 0 → refused 10 alone ≡ enterable levels tail x
+  unfolding admitted
   too-deep h = rw (← e, eq-eqb levels 0 h)
 
-  pub not-last : (levels ≡ 0 → ⊥) → tail ≡ 0 → refused 8 alone ≡ enterBy levels tail x
-  unfolding enterBy
+  pub not-last : (levels ≡ 0 → ⊥) → tail ≡ 0 → refused 8 alone ≡ enterable levels tail x
+  unfolding admitted
   not-last h k = rw (← e, ne-eqb levels 0 h, le-ltb 0 tail (omega arith))
 
-  pub entered : (levels ≡ 0 → ⊥) → (tail ≡ 0 → ⊥) → accepted (record { start = start; size = start + size - start }) ≡ enterBy levels tail x
-  unfolding enterBy
+  pub entered : (levels ≡ 0 → ⊥) → (tail ≡ 0 → ⊥) → accepted (record { start = start; size = start + size - start }) ≡ enterable levels tail x
+  unfolding admitted
   entered h k = rw (← e, ne-eqb levels 0 h, lt-ltb 0 tail (omega arith), add-sub-cancel-left start size)
 
 -- ---- the callee
 
-module _ (list : List ℕ) (count : ℕ) (o : Operand) (exact : Bool) (levels tail : ℕ) where
-  pub aimed-entry : (k : ℕ) → accepted k ≡ callee exact count o → enterBy levels tail (place 2 list k) ≡ aimed list count o exact levels tail
+module _ (rules : Rules) (list : List ℕ) (count : ℕ) (o : Operand) (levels tail : ℕ) where
+  pub aimed-entry : (k : ℕ) → accepted k ≡ callee (rules .exact) count o
+      → enterable levels tail (place (rules .width) list k) ≡ aimed rules list count o levels tail
   unfolding aimed aimBy
   aimed-entry k e = rw (← e)
 
-  pub aimed-none : (n : ℕ) → refused n alone ≡ callee exact count o → refused n alone ≡ aimed list count o exact levels tail
+  pub aimed-none : (n : ℕ) → refused n alone ≡ callee (rules .exact) count o → refused n alone ≡ aimed rules list count o levels tail
   unfolding aimed aimBy
   aimed-none n e = rw (← e)

@@ -4,6 +4,10 @@ use Rattle.charstring.proofs.Packed.{unpacked, unpacked-short}
 use borrow.Author.Needs.{needs}
 use Rattle.charstring.proofs.argstack.unpack.Statement.{statement}
 use Rattle.charstring.proofs.argstack.unpack.Tie as tie
+use Rattle.charstring.proofs.argstack.unpack.Reads as reads
+use Rattle.charstring.proofs.argstack.unpack.Lts as lts
+use Rattle.charstring.proofs.argstack.short_of.Reads as short-of-reads
+use Rattle.number.proofs.value_of.Reads as value-of-reads
 
 cast-short-of : tie.Need-cast-short-of
 cast-short-of c = search needs
@@ -17,6 +21,9 @@ short-of-requires c κs = search needs
 returns : tie.Need-returns
 returns c = unpacked-short (c .before .before .args .w) _ (omega arith) (c .short-of .ensures)
 
+cast-value-of : tie.Need-cast-value-of
+cast-value-of c = search needs
+
 value-of-requires : tie.Need-value-of-requires
 value-of-requires c κs = search needs
 
@@ -26,4 +33,11 @@ returns-2 c = unpacked (c .before .before .args .w) _ (omega arith) (moved (c .v
 pub unpack-spec : {M : Type 1} → statement M
 unpack-spec =
     tie.close
-    (tie.spec cast-short-of cast-short-of-2 short-of-requires returns value-of-requires returns-2)
+    (tie.spec
+    cast-short-of
+    cast-short-of-2
+    short-of-requires
+    returns
+    cast-value-of
+    value-of-requires
+    returns-2)

@@ -1,5 +1,5 @@
 use mathlib.Core.Path.{_∙_}
-use Rattle.charstring.proofs.Operators.{escaped-is, plain-is}
+use Rattle.charstring.proofs.Operators.{escaped-is, byte-is}
 use borrow.Author.Needs.{needs}
 use Rattle.charstring.proofs.operator.kind_of.Statement.{statement}
 use Rattle.charstring.proofs.operator.kind_of.Tie as tie
@@ -10,11 +10,11 @@ escaped-kind-requires c κs = search needs
 returns : tie.Need-returns
 returns c = c .escaped-kind .ensures ∙ escaped-is _ (search needs)
 
-plain-kind-requires : tie.Need-plain-kind-requires
-plain-kind-requires c κs = search needs
+byte-kind-requires : tie.Need-byte-kind-requires
+byte-kind-requires c κs = search needs
 
 returns-2 : tie.Need-returns-2
-returns-2 c = c .plain-kind .ensures ∙ plain-is _ (search needs)
+returns-2 c = c .byte-kind .ensures ∙ byte-is _ (search needs)
 
 pub kind-of-spec : {M : Type 1} → statement M
-kind-of-spec = tie.close (tie.spec escaped-kind-requires returns plain-kind-requires returns-2)
+kind-of-spec = tie.close (tie.spec escaped-kind-requires returns byte-kind-requires returns-2)

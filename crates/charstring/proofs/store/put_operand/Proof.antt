@@ -1,55 +1,56 @@
-use Rattle.charstring.proofs.Packed.{passed}
-use native.Mathlib.Omega.{arith}
-use Rattle.charstring.proofs.Stored.{stored-as}
-use Rattle.charstring.specs.Short.{integer-bytes, fixed-bytes}
+use Rattle.charstring.proofs.Stored.{stored-as, stored-none, Starts, starts-long, starts-within, some-written, none-written}
+use Rattle.number.specs.Number.{charstringRows}
+use Rattle.number.specs.Written.{spelling}
+use mathlib.Core.Path.{refl}
 use borrow.Author.Needs.{needs}
 use Rattle.charstring.proofs.store.put_operand.Statement.{statement}
 use Rattle.charstring.proofs.store.put_operand.Tie as tie
+use Rattle.charstring.proofs.store.put_operand.Reads as reads
+use Rattle.charstring.proofs.store.put_operand.Lts as lts
+use Rattle.charstring.proofs.store.put_bytes.Reads as put-bytes-reads
+use Rattle.number.proofs.write_charstring_number.Reads as write-charstring-number-reads
 
-bits-of-requires : tie.Need-bits-of-requires
-bits-of-requires c κs = search needs
+-- where the bytes are held
+written : (c : tie.After-n) → Starts (c .n .given .0 .0) (c .before .before .before .write-charstring-number .last .1 .0) (spelling charstringRows (c .before .before .before .before .before .before .args .o))
+written c = some-written _ refl _ _ _ (c .before .before .before .write-charstring-number .ensures) _ (c .n .given .1)
 
-put-fixed-requires : tie.Need-put-fixed-requires
-put-fixed-requires c κs = search needs
+slice-aggregate-write-charstring-number : tie.Need-slice-aggregate-write-charstring-number
+slice-aggregate-write-charstring-number c = search needs
+
+write-charstring-number-requires : tie.Need-write-charstring-number-requires
+write-charstring-number-requires c κs = search needs
+
+enum-known-n : tie.Need-enum-known-n
+enum-known-n c = search needs
+
+returns : tie.Need-returns
+returns c = stored-none _ _ (none-written _ refl _ (c .before .before .write-charstring-number .result) _ (c .before .before .write-charstring-number .ensures) (c .match .keys2))
+
+array-share-prefix-held : tie.Need-array-share-prefix-held
+array-share-prefix-held c = starts-within _ _ _ (written (c .before .before))
+
+slice-aggregate-put-bytes : tie.Need-slice-aggregate-put-bytes
+slice-aggregate-put-bytes c = starts-long _ _ _ (written (c .before .before .before))
+
+put-bytes-requires : tie.Need-put-bytes-requires
+put-bytes-requires c κs = search needs
 
 same-length : tie.Need-same-length
 same-length c = search needs
 
-returns : tie.Need-returns
-returns c =
-    let args = c .before .before .before .before .before .before .before .before .args in
-    let bits-of = c .before .before .before .before .before .bits-of in
-    let put-fixed = c .before .before .put-fixed in
-    stored-as _ _
-    (fixed-bytes (args .o) _ (omega arith) (passed (args .o .value) (omega arith) (bits-of .ensures .0)) (search needs) (bits-of .ensures .1))
-    (put-fixed .ensures .0) (put-fixed .ensures .1)
-
-add-put-integer : tie.Need-add-put-integer
-add-put-integer c = search needs
-
-put-integer-requires : tie.Need-put-integer-requires
-put-integer-requires c κs = search needs
-
-same-length-2 : tie.Need-same-length-2
-same-length-2 c = search needs
-
 returns-2 : tie.Need-returns-2
-returns-2 c =
-    let args = c .before .before .before .before .before .before .before .before .args in
-    let put-integer = c .before .before .put-integer in
-    stored-as _ _ (integer-bytes (args .o) _ (omega arith)
-    (passed (args .o .value) (omega arith) (c .before .before .before .before .before .bits-of .ensures .0)) (search needs)) (put-integer .ensures .0)
-    (put-integer .ensures .1)
+returns-2 c = stored-as _ _ (written (c .before .before .before .before .before .before) .first) (c .before .before .put-bytes .ensures .0) (c .before .before .put-bytes .ensures .1)
 
 pub put-operand-spec : {M : Type 1} → statement M
 put-operand-spec =
     tie.close
     (tie.spec
-    bits-of-requires
-    put-fixed-requires
-    same-length
+    slice-aggregate-write-charstring-number
+    write-charstring-number-requires
+    enum-known-n
     returns
-    add-put-integer
-    put-integer-requires
-    same-length-2
+    array-share-prefix-held
+    slice-aggregate-put-bytes
+    put-bytes-requires
+    same-length
     returns-2)

@@ -1,4 +1,4 @@
-use Rattle.charstring.proofs.Stored.{stored-as, escaped-bytes, plain-bytes}
+use Rattle.charstring.proofs.Stored.{stored-as, escaped-bytes, one-byte}
 use borrow.Author.Needs.{needs}
 use Rattle.charstring.proofs.store.put_operator.Statement.{statement}
 use Rattle.charstring.proofs.store.put_operator.Tie as tie
@@ -19,7 +19,7 @@ same-length-2 : tie.Need-same-length-2
 same-length-2 c = search needs
 
 returns-2 : tie.Need-returns-2
-returns-2 c = stored-as _ _ (plain-bytes (c .before .before .before .before .before .before .args .p) (search needs)) (c .before .before .put-byte .ensures .0) (c .before .before .put-byte .ensures .1)
+returns-2 c = stored-as _ _ (one-byte (c .before .before .before .before .before .before .args .p) (search needs)) (c .before .before .put-byte .ensures .0) (c .before .before .put-byte .ensures .1)
 
 pub put-operator-spec : {M : Type 1} → statement M
 put-operator-spec =

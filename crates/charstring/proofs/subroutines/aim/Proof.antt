@@ -1,9 +1,14 @@
 use mathlib.Core.Path.{sym, ap, _∙_}
 use Rattle.number.specs.Call.{calleeOf}
+use Rattle.reading.specs.Rules.{meant}
 use Rattle.charstring.proofs.Targets.{aimed-entry, aimed-none}
 use borrow.Author.Needs.{needs}
 use Rattle.charstring.proofs.subroutines.aim.Statement.{statement}
 use Rattle.charstring.proofs.subroutines.aim.Tie as tie
+use Rattle.charstring.proofs.subroutines.aim.Reads as reads
+use Rattle.charstring.proofs.subroutines.aim.Lts as lts
+use Rattle.charstring.proofs.subroutines.admit.Reads as admit-reads
+use Rattle.number.proofs.callee_of.Reads as callee-of-reads
 
 callee-of-requires : tie.Need-callee-of-requires
 callee-of-requires c κs = search needs
@@ -11,8 +16,8 @@ callee-of-requires c κs = search needs
 enum-known-k : tie.Need-enum-known-k
 enum-known-k c = search needs
 
-enter-requires : tie.Need-enter-requires
-enter-requires c κs = search needs
+admit-requires : tie.Need-admit-requires
+admit-requires c κs = search needs
 
 enum-told : tie.Need-enum-told
 enum-told c = search needs
@@ -21,7 +26,10 @@ enum-told-2 : tie.Need-enum-told-2
 enum-told-2 c = search needs
 
 returns : tie.Need-returns
-returns c = (c .enter .ensures .0 ∙ aimed-entry _ _ _ _ _ _ _ (ap calleeOf (sym (c .before .before .k .given .1)) ∙ c .before .before .before .before .callee-of .ensures), c .enter .ensures .1)
+returns c =
+    let args = c .before .before .before .before .before .before .args in
+    let e = ap calleeOf (sym (c .before .before .k .given .1)) ∙ c .before .before .before .before .callee-of .ensures in
+    (c .admit .ensures .0 ∙ aimed-entry (meant (args .rules)) _ _ _ _ _ _ e, c .admit .ensures .1)
 
 returns-2 : tie.Need-returns-2
 returns-2 c = (aimed-none _ _ _ _ _ _ 7 (ap calleeOf (sym (c .enum-told .given .1)) ∙ c .before .before .callee-of .ensures), tt)
@@ -35,7 +43,7 @@ aim-spec =
     (tie.spec
     callee-of-requires
     enum-known-k
-    enter-requires
+    admit-requires
     enum-told
     enum-told-2
     returns

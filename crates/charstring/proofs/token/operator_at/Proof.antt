@@ -1,5 +1,5 @@
 use native.Mathlib.Omega.{arith}
-use Rattle.charstring.proofs.Cuts.{plain-at, lacks-at, escaped-at}
+use Rattle.charstring.proofs.Cuts.{byte-at, lacks-at, escaped-at}
 use borrow.Author.Needs.{needs}
 use Rattle.charstring.proofs.token.operator_at.Statement.{statement}
 use Rattle.charstring.proofs.token.operator_at.Tie as tie
@@ -11,7 +11,7 @@ add-t7 : tie.Need-add-t7
 add-t7 c = search needs
 
 returns : tie.Need-returns
-returns c = (plain-at _ _ (c .before .before .pre) (c .if1 .taken), (omega arith, omega arith))
+returns c = (byte-at _ _ (c .before .before .pre) (c .if1 .taken), (omega arith, omega arith))
 
 add-if2 : tie.Need-add-if2
 add-if2 c = search needs
