@@ -17,7 +17,7 @@ use Rattle.reading.specs.declared.Which.{Which}
 use Rattle.reading.specs.declared.Which.the-variants.{Local, Global}
 use Rattle.charstring.specs.Words.{unpackOf, aimed, targetOf, Inside}
 use Rattle.charstring.specs.States.{entered}
-use Rattle.charstring.specs.Run.{CallsAt, Repr, Here, Roomy, Reached, Standing, StretchesTo, chosen, chosenCount, Setting, Sound, around, RunsTo}
+use Rattle.charstring.specs.Run.{CallsAt, Repr, Here, Roomy, Reached, Standing, StretchesTo, chosen, chosenCount, Setting, Sound, grounded, around, RunsTo}
 use Rattle.charstring.specs.HereLaws.{begin}
 use Rattle.charstring.specs.EnterLaws.{Named, by-no, found, deeper, inner-repr, index-fits, came-back, passed-on}
 use Rattle.charstring.specs.StretchLaws.{Safe, safe-here}
@@ -74,107 +74,122 @@ module _ (cs globals locals : List ℕ) (by : Limits) (levels : ℕ) (stack₀ o
     unfolding Standing Sound
     stands-on = (_, h .stands (h .sound .0) (h .sound .1))
 
-    -- ---- a stretch from there
+    -- a stretch from there that ended the string
+    pub arm-done : (r : Stretched) (stack₁ out₁ : List ℕ) → StretchesTo cs by stack out s i r stack₁ out₁ → (how : Ending) → r .stop ≡ Finished how
+        → Gives (record { how = how; st = r .st }) stack₁ out₁
+    unfolding StretchesTo RunsTo
+    arm-done r stack₁ out₁ d how e = λ t p. subst (λ (x : Stop). Reached cs by (grounded globals locals by levels t) i stack₁ out₁ (r .st) x) e (d _ (h .stands t p))
 
-    module _ (r : Stretched) (stack₁ out₁ : List ℕ) (d : StretchesTo cs by stack out s i r stack₁ out₁) where
-      -- it ended the string
-      pub arm-done : (how : Ending) → r .stop ≡ Finished how → Gives (record { how = how; st = r .st }) stack₁ out₁
-      unfolding StretchesTo RunsTo
-      arm-done how e = λ t p. subst (λ (x : Stop). Reached cs by _ i stack₁ out₁ (r .st) x) e (d _ (h .stands t p))
+  -- ---- a stretch that stands before a call, with the state r
 
-      -- it stands before a call
-      abbrev pub Before : ℕ → Which → Type 0
-      Before next w = Each (λ t. (j : ℕ) × (i ≤ j) × Here (around cs globals locals by levels t) stack₁ out₁ (r .st) j
-          × CallsAt (meant (by .rules)) cs j (by .budget) (r .st) next w)
+  pub record Before (i : ℕ) (r : State) (stack out : List ℕ) (next : ℕ) (w : Which) : Type 0 where
+    pub setting : Setting globals locals by stack
+    pub sound : Sound by stack₀ out₀ s₀
+    pub stands : Each (λ t. (j : ℕ) × (i ≤ j) × Here (around cs globals locals by levels t) stack out r j × CallsAt (meant (by .rules)) cs j (by .budget) r next w)
 
-      pub before : (next : ℕ) (w : Which) → r .stop ≡ Calling next w → Before next w
-      unfolding StretchesTo
-      before next w e = λ t p. subst (λ (x : Stop). Reached cs by _ i stack₁ out₁ (r .st) x) e (d _ (h .stands t p))
+  pub before : (stack out : List ℕ) (s : State) (i : ℕ) → Turn stack out s i → (r : Stretched) (stack₁ out₁ : List ℕ)
+      → StretchesTo cs by stack out s i r stack₁ out₁ → length stack₁ ≡ length stack → (next : ℕ) (w : Which) → r .stop ≡ Calling next w
+      → Before i (r .st) stack₁ out₁ next w
+  unfolding StretchesTo
+  before stack out s i h r stack₁ out₁ d same next w e =
+      record {
+        setting = setting-now stack out s i h stack₁ same;
+        sound = h .sound;
+        stands = λ t p. subst (λ (x : Stop). Reached cs by (grounded globals locals by levels t) i stack₁ out₁ (r .st) x) e (d _ (h .stands t p));
+      }
 
-      module _ (same : length stack₁ ≡ length stack) (next : ℕ) (w : Which) (b : Before next w) where
-        -- the numbers that the code's arithmetic goes by
-        pub record Numbers : Type 0 where
-          pub numbers : Safe stack₁ (r .st)
-          pub some : 0 < r .st .count
-          pub begun : r .st .tokens < by .budget
-          pub ahead : i < next
-          pub inside : next ≤ length cs
+  module _ (i : ℕ) (r : State) (stack out : List ℕ) (next : ℕ) (w : Which) (b : Before i r stack out next w) where
+    -- the numbers that the code's arithmetic goes by
+    pub record Numbers : Type 0 where
+      pub numbers : Safe stack r
+      pub some : 0 < r .count
+      pub begun : r .tokens < by .budget
+      pub ahead : i < next
+      pub inside : next ≤ length cs
 
-        pub safe : Numbers
+    pub safe : Numbers
+    unfolding Sound
+    safe =
+        let x = b .stands (b .sound .0) (b .sound .1) in
+        let q = b .setting .roomy in
+        let a = x .3 .1 .begun in
+        record {
+          numbers = safe-here _ stack out r (x .0) (x .2) (q .few-hints) (q .few-words);
+          some = x .3 .3;
+          begun = a .within;
+          ahead = let k = x .1 in let l = a .ahead in omega arith;
+          inside = a .inside;
+        }
+
+    -- its operand, its list, and what was aimed at
+    abbrev operand-of : Operand
+    operand-of = unpackOf (getD stack (r .count - 1) 0)
+
+    abbrev list-of : List ℕ
+    list-of = chosen w globals locals
+
+    abbrev pub Aims : Target → Type 0
+    Aims x = targetOf x ≡ aimed (meant (by .rules)) list-of (chosenCount w by) operand-of levels (r .tail)
+
+    named : (t : Now) → Named (around cs globals locals by levels t) w list-of (chosenCount w by)
+    unfolding listsOf
+    named t = by-which w
+      where
+        by-which : (v : Which) → Named (around cs globals locals by levels t) v (chosen v globals locals) (chosenCount v by)
+        by-which Local = record { is-list = refl; is-count = b .setting .local-count }
+        by-which Global = record { is-list = refl; is-count = b .setting .global-count }
+
+    pub arm-no : (k : Refusal) → Aims (No k) → Gives (record { how = Refused k; st = r }) stack out
+    unfolding RunsTo
+    arm-no k e = λ t p. let x = b .stands t p in by-no _ stack out r (x .0) (x .2) w next (x .3) list-of (chosenCount w by) (named t) k e
+
+    module _ (from to : ℕ) (e : Aims (Enter from to)) where
+      abbrev pub body-of : List ℕ
+      body-of = take (to - from) (drop from list-of)
+
+      -- what the code's arithmetic goes by at an entry
+      pub index-there : (length (spelling charstringRows operand-of) ≤ r .length) × (0 < r .tail) × (levels ≡ 0 → ⊥)
+      unfolding Sound
+      index-there =
+          let t = b .sound .0 in
+          let x = b .stands t (b .sound .1) in
+          let m = index-fits _ stack out r (x .0) (x .2) w next (x .3) list-of (chosenCount w by) (named t) from to e in
+          let g = found _ stack out r (x .0) (x .2) w next (x .3) list-of (chosenCount w by) (named t) from to e in
+          (m, g .some-last, g .levels-left)
+
+      module _ (s : State) (size : ℕ) (q : size ≡ length (spelling charstringRows operand-of)) (is : s ≡ entered r size) where
+        abbrev begins-at : (t : Now) → Repr (meant (by .rules)) stack₀ out₀ s₀ t → Now
+        begins-at t p =
+            let x = b .stands t p in
+            deeper (around cs globals locals by levels t) stack out r (x .0) (x .2) w next (x .3) list-of (chosenCount w by) (named t) from to e .start
+
+        inner : (t : Now) (p : Repr (meant (by .rules)) stack₀ out₀ s₀ t) → Repr (meant (by .rules)) stack out s (begins-at t p)
+        inner t p =
+            let x = b .stands t p in
+            subst (λ (y : State). Repr (meant (by .rules)) stack out y (begins-at t p)) (sym is)
+            (inner-repr _ stack out r (x .0) (x .2) w next (x .3) list-of (chosenCount w by) (named t) from to e size q)
+
+        -- the entry's state stands for one of the reading
+        pub inside-sound : Sound by stack out s
         unfolding Sound
-        safe =
-            let x = b (h .sound .0) (h .sound .1) in
-            let q = roomy-now in
-            let a = x .3 .1 .begun in
-            record {
-              numbers = safe-here _ stack₁ out₁ (r .st) (x .0) (x .2) (q .few-hints) (let k = q .few-words in omega arith);
-              some = x .3 .3;
-              begun = a .within;
-              ahead = let k = x .1 in let l = a .ahead in omega arith;
-              inside = a .inside;
-            }
+        inside-sound = (_, inner (b .sound .0) (b .sound .1))
 
-        -- its operand, its list, and what was aimed at
-        abbrev operand-of : Operand
-        operand-of = unpackOf (getD stack₁ (r .st .count - 1) 0)
+        module _ (list : List ℕ) (its : list ≡ list-of) (r₁ : Ran) (stack₁ out₁ : List ℕ)
+            (ran : RunsTo (take (to - from) (drop from list)) globals locals by s stack out (levels - 1) r₁ stack₁ out₁) where
+          ran-there : RunsTo body-of globals locals by s stack out (levels - 1) r₁ stack₁ out₁
+          ran-there = subst (λ (l : List ℕ). RunsTo (take (to - from) (drop from l)) globals locals by s stack out (levels - 1) r₁ stack₁ out₁) its ran
 
-        abbrev list-of : List ℕ
-        list-of = chosen w globals locals
+          pub arm-back : r₁ .how ≡ Back → Stands stack₁ out₁ (r₁ .st) next
+          unfolding RunsTo
+          arm-back c = λ t p.
+              let x = b .stands t p in
+              came-back _ stack out r (x .0) (x .2) w next (x .3) list-of (chosenCount w by) (named t) from to e r₁ stack₁ out₁ (ran-there _ (inner t p)) c
 
-        abbrev pub Aims : Target → Type 0
-        Aims x = targetOf x ≡ aimed (meant (by .rules)) list-of (chosenCount w by) operand-of levels (r .st .tail)
-
-        named : (t : Now) → Named (around cs globals locals by levels t) w list-of (chosenCount w by)
-        unfolding listsOf
-        named t = by-which w
-          where
-            by-which : (v : Which) → Named (around cs globals locals by levels t) v (chosen v globals locals) (chosenCount v by)
-            by-which Local = record { is-list = refl; is-count = h .setting .local-count }
-            by-which Global = record { is-list = refl; is-count = h .setting .global-count }
-
-        pub arm-no : (k : Refusal) → Aims (No k) → Gives (record { how = Refused k; st = r .st }) stack₁ out₁
-        unfolding RunsTo
-        arm-no k e = λ t p. let x = b t p in by-no _ stack₁ out₁ (r .st) (x .0) (x .2) w next (x .3) list-of (chosenCount w by) (named t) k e
-
-        module _ (from to : ℕ) (e : Aims (Enter from to)) where
-          abbrev pub body-of : List ℕ
-          body-of = take (to - from) (drop from list-of)
-
-          -- what the code's arithmetic goes by at an entry
-          pub index-there : (length (spelling charstringRows operand-of) ≤ r .st .length) × (0 < r .st .tail) × (levels ≡ 0 → ⊥)
-          unfolding Sound
-          index-there =
-              let t = h .sound .0 in
-              let x = b t (h .sound .1) in
-              let m = index-fits _ stack₁ out₁ (r .st) (x .0) (x .2) w next (x .3) list-of (chosenCount w by) (named t) from to e in
-              let g = found _ stack₁ out₁ (r .st) (x .0) (x .2) w next (x .3) list-of (chosenCount w by) (named t) from to e in
-              (m, g .some-last, g .levels-left)
-
-          module _ (size : ℕ) (q : size ≡ length (spelling charstringRows operand-of)) where
-            inner : (t : Now) (p : Repr (meant (by .rules)) stack₀ out₀ s₀ t) → let x = b t p in
-                Repr (meant (by .rules)) stack₁ out₁ (entered (r .st) size)
-                (deeper (around cs globals locals by levels t) stack₁ out₁ (r .st) (x .0) (x .2) w next (x .3) list-of (chosenCount w by) (named t) from to e .start)
-            inner t p =
-                let x = b t p in
-                inner-repr _ stack₁ out₁ (r .st) (x .0) (x .2) w next (x .3) list-of (chosenCount w by) (named t) from to e size q
-
-            -- the entry's state stands for one of the reading
-            pub inside-sound : Sound by stack₁ out₁ (entered (r .st) size)
-            unfolding Sound
-            inside-sound = (_, inner (h .sound .0) (h .sound .1))
-
-            module _ (r₁ : Ran) (stack₂ out₂ : List ℕ) (ran : RunsTo body-of globals locals by (entered (r .st) size) stack₁ out₁ (levels - 1) r₁ stack₂ out₂) where
-              pub arm-back : r₁ .how ≡ Back → Stands stack₂ out₂ (r₁ .st) next
-              unfolding RunsTo
-              arm-back c = λ t p.
-                  let x = b t p in
-                  came-back _ stack₁ out₁ (r .st) (x .0) (x .2) w next (x .3) list-of (chosenCount w by) (named t) from to e r₁ stack₂ out₂ (ran _ (inner t p)) c
-
-              pub arm-passed : (r₁ .how ≡ Back → ⊥) → Gives r₁ stack₂ out₂
-              unfolding RunsTo
-              arm-passed n = λ t p.
-                  let x = b t p in
-                  passed-on _ stack₁ out₁ (r .st) (x .0) (x .2) w next (x .3) list-of (chosenCount w by) (named t) from to e r₁ stack₂ out₂ (ran _ (inner t p)) n
+          pub arm-passed : (r₁ .how ≡ Back → ⊥) → Gives r₁ stack₁ out₁
+          unfolding RunsTo
+          arm-passed n = λ t p.
+              let x = b .stands t p in
+              passed-on _ stack out r (x .0) (x .2) w next (x .3) list-of (chosenCount w by) (named t) from to e r₁ stack₁ out₁ (ran-there _ (inner t p)) n
 
 -- ---- what the code found, in these words
 

@@ -241,9 +241,11 @@ unfoldable pub Sound : Limits → List ℕ → List ℕ → State → Type 0
 Sound by stack out s = (t : Now) × Repr (meant (by .rules)) stack out s t
 
 -- a string with these lists, so many levels left and this start
+abbrev pub grounded : List ℕ → List ℕ → Limits → ℕ → Now → Ground
+grounded globals locals by levels t = record { lists = listsOf (meant (by .rules) .width) globals locals; levels = levels; start = t }
+
 abbrev pub around : List ℕ → List ℕ → List ℕ → Limits → ℕ → Now → Setup
-around cs globals locals by levels t =
-    upon cs by (record { lists = listsOf (meant (by .rules) .width) globals locals; levels = levels; start = t })
+around cs globals locals by levels t = upon cs by (grounded globals locals by levels t)
 
 -- whatever state of the reading the state stands for, the run is the reading's
 unfoldable pub RunsTo : List ℕ → List ℕ → List ℕ → Limits → State → List ℕ → List ℕ → ℕ → Ran → List ℕ → List ℕ → Type 0

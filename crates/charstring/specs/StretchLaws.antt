@@ -53,6 +53,12 @@ safe-here u stack out s i x hints words =
       small-length = omega arith;
     }
 
+pub few-tokens : (n budget : ℕ) → n < budget → budget ≤ 4294967295 → n < 4294967295
+few-tokens n budget h k = omega arith
+
+pub few-operands : (n m : ℕ) → n ≤ m → m ≤ 65535 → n < 65536
+few-operands n m h k = omega arith
+
 pub operator-two : (p : Operator) → length (operatorBytes p) ≤ 2
 operator-two p = go (p .escaped)
   where

@@ -1,10 +1,18 @@
-use mathlib.Core.Path.{_≡_, refl, ap, subst, _∙_}
+use mathlib.Core.Path.{_≡_, refl, sym, ap, subst, _∙_}
 use mathlib.Core.List.{List}
-use Prim.Native.Nat.{_-_}
+use Prim.Native.Nat.{_-_, _≤_}
+use denote.Ref.{now}
 use native.Mathlib.Omega.{arith}
 use lib.ListN.{length, take, drop}
 use borrow.Author.Needs.{needs}
-use Rattle.charstring.specs.LoopLaws.{Stands}
+use Rattle.number.specs.Number.{charstringRows}
+use Rattle.number.specs.Written.{spelling}
+use Rattle.number.specs.declared.Operand.{Operand}
+use Rattle.charstring.specs.Words.{Inside}
+use Rattle.charstring.specs.StretchLaws.{few-tokens}
+use Rattle.charstring.specs.LoopLaws.{Stands, begins, Turn, roomy-now, stands-on, arm-done, Before, before, safe, Aims, arm-no, index-there, inside-sound}
+use Rattle.charstring.specs.LoopLaws.{arm-back, arm-passed, aims-at, ended-goes, refused-goes}
+use Rattle.charstring.specs.declared.subroutines.Target.the-variants.{Enter, No}
 use Prim.Native.Nat.{ℕ, _<_}
 use borrow.Fn.Kinds.{In, Out}
 use borrow.Fn.PlainCycle.{Measures, is, falls, and}
@@ -44,13 +52,57 @@ callees t = (stretch-reads.Asked, stretch-reads.Learnt, unpack-reads.Asked, unpa
 abbrev Of : (run-lts.Claims → In 3 run-kinds.ps → Out 3 run-kinds.ps run-kinds.r → run-lts.InvT-loop → run-lts.MeasureT-loop → Type 0) → ℕ → Type 0
 Of need t = need (callees t) (run-at t) run.Post run-Inv-loop run-μ-loop
 
+-- where the loop is
+turn-at : (t : ℕ) (c : run-lts.At-loop (callees t) (run-at t) run.Post run-Inv-loop run-μ-loop)
+    → let args = c .before .before .before .before .before .before .args in
+    Turn (args .cs .now) (args .globals .now) (args .locals .now) (args .by) (args .levels) (args .stack .now) (args .out .now) (args .s)
+    (c .loop .stack) (c .loop .out) (c .loop .st) (c .loop .i)
+turn-at t c =
+    let start = c .before .before .before .before .before .before in
+    record { same-stack = c .loop .inv .0; setting = start .pre .1 .0; sound = start .pre .1 .1; stands = c .loop .inv .2 }
+
+-- where a call was reached
+at-call : (t : ℕ) (c : run-lts.After-stop2 (callees t) (run-at t) run.Post run-Inv-loop run-μ-loop)
+    → let at-stretch = c .before .before .before .before .before .before .before in
+    let at-loop = at-stretch .before .before .before in
+    let args = at-loop .before .before .before .before .before .before .args in
+    let stretch = at-stretch .stretch in
+    Before (args .cs .now) (args .globals .now) (args .locals .now) (args .by) (args .levels) (args .stack .now) (args .out .now) (args .s)
+    (at-loop .loop .i) (stretch .result .st) (stretch .last .1 .1 .1 .1 .0) (stretch .last .1 .1 .1 .1 .1 .0)
+    (c .stop2 .given .0 .0) (c .stop2 .given .0 .1 .0)
+at-call t c =
+    let at-stretch = c .before .before .before .before .before .before .before in
+    before _ _ _ _ _ _ _ _ _ _ _ _ (turn-at t (at-stretch .before .before .before)) (at-stretch .stretch .result) _ _ (at-stretch .stretch .ensures)
+    (at-stretch .stretch .kept .1 .1 .1 .1 .0) _ _ (c .stop2 .given .1)
+
+-- what was aimed at, and that it lies within the list
+aims : (t : ℕ) (c : run-lts.After-target2 (callees t) (run-at t) run.Post run-Inv-loop run-μ-loop)
+    → Aims _ _ _ _ _ _ _ _ _ _ _ _ _ _ (at-call t (c .before .before .before .before .before .before .before .before .before))
+    (Enter (c .target2 .given .0 .0) (c .target2 .given .0 .1 .0))
+aims t c =
+    let at-aim = c .before .before in
+    let at-choose-count = at-aim .before in
+    let at-choose = at-choose-count .before in
+    aims-at _ _ _ _ _ _ _ _ _ _ _ (at-choose .choose .ensures) (at-choose-count .choose-count .ensures) (at-choose .before .unpack .ensures)
+    (c .target2 .given .1) (at-aim .aim .ensures .0)
+
+inside : (t : ℕ) (c : run-lts.After-target2 (callees t) (run-at t) run.Post run-Inv-loop run-μ-loop)
+    → ((c .target2 .given .0 .0) ≤ (c .target2 .given .0 .1 .0)) × ((c .target2 .given .0 .1 .0) ≤ length (now (c .before .before .before .before .choose .result)))
+inside t c = subst (Inside _) (c .target2 .given .1) (c .before .before .aim .ensures .1)
+
 -- src/charstring.rt:34:5
 run-loop-holds : (t : ℕ) → Of run-lts.Need-loop-holds t
-run-loop-holds t c = ?
+run-loop-holds t c =
+    let args = c .before .before .before .before .before .args in (
+      refl,
+      refl,
+      begins (args .cs .now) (args .globals .now) (args .locals .now) (args .by) (args .levels) (args .stack .now) (args .out .now) (args .s)
+          (λ k. c .before .before .before .before .shared-slice-known .given k .fits) (λ k. c .before .before .before .shared-slice-known2 .given k .fits) (λ k. c .before .before .shared-slice-known3 .given k .fits),
+    )
 
 -- src/charstring.rt:35:13
 run-stretch-requires : (t : ℕ) → Of run-lts.Need-stretch-requires t
-run-stretch-requires t c κs = ?
+run-stretch-requires t c κs = let h = turn-at t (c .before .before) in (roomy-now _ _ _ _ _ _ _ _ _ _ _ _ h, stands-on _ _ _ _ _ _ _ _ _ _ _ _ h)
 
 -- src/charstring.rt:39:24
 run-enum-known-stop : (t : ℕ) → Of run-lts.Need-enum-known-stop t
@@ -58,15 +110,15 @@ run-enum-known-stop t c = search needs
 
 -- src/charstring.rt:40:17
 run-same-length : (t : ℕ) → Of run-lts.Need-same-length t
-run-same-length t c = ?
+run-same-length t c = c .before .before .before .before .before .before .before .before .stretch .kept .1 .1 .1 .1 .0 ∙ c .before .before .before .before .before .before .before .before .before .before .before .loop .inv .0
 
 -- src/charstring.rt:40:17
 run-same-length-2 : (t : ℕ) → Of run-lts.Need-same-length-2 t
-run-same-length-2 t c = ?
+run-same-length-2 t c = c .before .before .before .before .before .before .before .before .stretch .kept .1 .1 .1 .1 .1 .0 ∙ c .before .before .before .before .before .before .before .before .before .before .before .loop .inv .1
 
 -- src/charstring.rt:40:17
 run-returns : (t : ℕ) → Of run-lts.Need-returns t
-run-returns t c = ?
+run-returns t c = arm-done _ _ _ _ _ _ _ _ _ _ _ _ (turn-at t (c .before .before .before .before .before .before .before .before .before .before .before)) (c .before .before .before .before .before .before .before .before .stretch .result) _ _ (c .before .before .before .before .before .before .before .before .stretch .ensures) _ (c .before .stop .given .1)
 
 -- src/charstring.rt:42:24
 run-enum-known-stop-2 : (t : ℕ) → Of run-lts.Need-enum-known-stop-2 t
@@ -74,31 +126,31 @@ run-enum-known-stop-2 t c = search needs
 
 -- src/charstring.rt:43:27
 run-sub-top : (t : ℕ) → Of run-lts.Need-sub-top t
-run-sub-top t c = ?
+run-sub-top t c = let b = at-call t (c .before .before) in let n = safe _ _ _ _ _ _ _ _ _ _ _ _ _ _ b in omega (arith, n .some)
 
 -- src/charstring.rt:44:32
 run-mul-unpack : (t : ℕ) → Of run-lts.Need-mul-unpack t
-run-mul-unpack t c = ?
+run-mul-unpack t c = let b = at-call t (c .before .before) in let n = safe _ _ _ _ _ _ _ _ _ _ _ _ _ _ b in omega (arith, n .numbers, n .some)
 
 -- src/charstring.rt:44:32
 run-slice-read-unpack : (t : ℕ) → Of run-lts.Need-slice-read-unpack t
-run-slice-read-unpack t c = ?
+run-slice-read-unpack t c = let b = at-call t (c .before .before .before) in let n = safe _ _ _ _ _ _ _ _ _ _ _ _ _ _ b in omega (arith, n .numbers, n .some)
 
 -- src/charstring.rt:44:21
 run-unpack-requires : (t : ℕ) → Of run-lts.Need-unpack-requires t
-run-unpack-requires t c κs = ?
+run-unpack-requires t c κs = tt
 
 -- src/charstring.rt:45:21
 run-choose-requires : (t : ℕ) → Of run-lts.Need-choose-requires t
-run-choose-requires t c κs = ?
+run-choose-requires t c κs = tt
 
 -- src/charstring.rt:46:40
 run-choose-count-requires : (t : ℕ) → Of run-lts.Need-choose-count-requires t
-run-choose-count-requires t c κs = ?
+run-choose-count-requires t c κs = tt
 
 -- src/charstring.rt:46:21
 run-aim-requires : (t : ℕ) → Of run-lts.Need-aim-requires t
-run-aim-requires t c κs = ?
+run-aim-requires t c κs = tt
 
 -- src/charstring.rt:48:32
 run-enum-known-target : (t : ℕ) → Of run-lts.Need-enum-known-target t
@@ -106,15 +158,15 @@ run-enum-known-target t c = search needs
 
 -- src/charstring.rt:49:25
 run-same-length-3 : (t : ℕ) → Of run-lts.Need-same-length-3 t
-run-same-length-3 t c = ?
+run-same-length-3 t c = c .before .before .before .before .before .before .before .before .before .before .before .before .before .before .before .before .before .stretch .kept .1 .1 .1 .1 .0 ∙ c .before .before .before .before .before .before .before .before .before .before .before .before .before .before .before .before .before .before .before .before .loop .inv .0
 
 -- src/charstring.rt:49:25
 run-same-length-4 : (t : ℕ) → Of run-lts.Need-same-length-4 t
-run-same-length-4 t c = ?
+run-same-length-4 t c = c .before .before .before .before .before .before .before .before .before .before .before .before .before .before .before .before .before .stretch .kept .1 .1 .1 .1 .1 .0 ∙ c .before .before .before .before .before .before .before .before .before .before .before .before .before .before .before .before .before .before .before .before .loop .inv .1
 
 -- src/charstring.rt:49:25
 run-returns-2 : (t : ℕ) → Of run-lts.Need-returns-2 t
-run-returns-2 t c = ?
+run-returns-2 t c = arm-no _ _ _ _ _ _ _ _ _ _ _ _ _ _ (at-call t (c .before .before .before .before .before .before .before .before .before .before)) (c .before .target .given .0 .0) (aims-at _ _ _ _ _ _ _ _ _ _ _ (c .before .before .before .before .before .choose .ensures) (c .before .before .before .before .choose-count .ensures) (c .before .before .before .before .before .before .unpack .ensures) (c .before .target .given .1) (c .before .before .before .aim .ensures .0))
 
 -- src/charstring.rt:54:35
 run-enum-known-target-2 : (t : ℕ) → Of run-lts.Need-enum-known-target-2 t
@@ -122,31 +174,37 @@ run-enum-known-target-2 t c = search needs
 
 -- src/charstring.rt:55:36
 run-sub-body : (t : ℕ) → Of run-lts.Need-sub-body t
-run-sub-body t c = ?
+run-sub-body t c = inside t (c .before) .0
 
 -- src/charstring.rt:55:36
 run-part-body-start : (t : ℕ) → Of run-lts.Need-part-body-start t
-run-part-body-start t c = ?
+run-part-body-start t c = inside t (c .before) .0
 
 -- src/charstring.rt:55:36
 run-part-body-end : (t : ℕ) → Of run-lts.Need-part-body-end t
-run-part-body-end t c = ?
+run-part-body-end t c = inside t (c .before) .1
 
 -- src/charstring.rt:56:49
 run-size-of-requires : (t : ℕ) → Of run-lts.Need-size-of-requires t
-run-size-of-requires t c κs = ?
+run-size-of-requires t c κs = tt
 
 -- src/charstring.rt:56:29
 run-enter-requires : (t : ℕ) → Of run-lts.Need-enter-requires t
-run-enter-requires t c κs = ?
+run-enter-requires t c κs = let b = at-call t (c .before .before .before .before .before .before .before .before .before .before .before .before) in let n = safe _ _ _ _ _ _ _ _ _ _ _ _ _ _ b in let e = aims t (c .before .before .before) in let x = index-there _ _ _ _ _ _ _ _ _ _ _ _ _ _ b _ _ e in (n .some, x .1, few-tokens _ _ (n .begun) (omega (arith, c .before .before .before .before .before .before .before .before .before .before .before .before .before .before .before .before .before .before .before .before .before .before .before .before .before .before .before .before .good)), subst (λ (m : ℕ). m ≤ c .before .before .before .before .before .before .before .before .before .before .before .before .before .before .before .before .before .before .before .stretch .result .st .length) (sym (c .size-of .ensures ∙ ap (λ (o : Operand). length (spelling charstringRows o)) (c .before .before .before .before .before .before .before .before .unpack .ensures))) (x .0))
 
 -- src/charstring.rt:57:83
 run-sub-run : (t : ℕ) → Of run-lts.Need-sub-run t
-run-sub-run t c = ?
+run-sub-run t c = let b = at-call t (c .before .before .before .before .before .before .before .before .before .before .before .before .before .before .before) in let n = safe _ _ _ _ _ _ _ _ _ _ _ _ _ _ b in let e = aims t (c .before .before .before .before .before .before) in let x = index-there _ _ _ _ _ _ _ _ _ _ _ _ _ _ b _ _ e in let y = x .2 in omega arith
 
 -- src/charstring.rt:57:29
 run-run-requires : (t : ℕ) → Of run-lts.Need-run-requires t
-run-run-requires t c κs = ?
+run-run-requires t c κs = let b = at-call t (c .before .before .before .before .before .before .before .before .before .before .before .before .before .before .before) in let n = safe _ _ _ _ _ _ _ _ _ _ _ _ _ _ b in let e = aims t (c .before .before .before .before .before .before) in let x = index-there _ _ _ _ _ _ _ _ _ _ _ _ _ _ b _ _ e in let y = x .2 in let z = c .before .before .before .before .before .before .before .before .before .before .before .before .before .before .before .before .before .before .before .before .before .before .before .before .before .before .before .before .before .before .before .pre .0 in (
+      omega arith,
+      (
+        b .setting,
+        inside-sound _ _ _ _ _ _ _ _ _ _ _ _ _ _ b _ _ e _ _ (c .before .before .before .size-of .ensures ∙ ap (λ (o : Operand). length (spelling charstringRows o)) (c .before .before .before .before .before .before .before .before .before .before .before .unpack .ensures)) (c .before .before .enter .ensures),
+      ),
+    )
 
 -- src/charstring.rt:61:33
 run-enum-told : (t : ℕ) → Of run-lts.Need-enum-told t
@@ -154,11 +212,15 @@ run-enum-told t c = search needs
 
 -- src/charstring.rt:34:5
 run-loop-less : (t : ℕ) → Of run-lts.Need-loop-less t
-run-loop-less t c = ?
+run-loop-less t c = let b = at-call t (c .before .before .before .before .before .before .before .before .before .before .before .before .before .before .before .before .before .before .before .before .before .before .before) in let n = safe _ _ _ _ _ _ _ _ _ _ _ _ _ _ b in omega (arith, n .ahead, n .inside)
 
 -- src/charstring.rt:34:5
 run-loop-again : (t : ℕ) → Of run-lts.Need-loop-again t
-run-loop-again t c = ?
+run-loop-again t c = let b = at-call t (c .before .before .before .before .before .before .before .before .before .before .before .before .before .before .before .before .before .before .before .before .before .before .before) in (
+      c .before .before .before .before .before .before .before .run .kept .1 .1 .1 .1 .1 .0 ∙ c .before .before .before .before .before .before .before .before .before .before .before .before .before .before .before .before .before .before .before .before .before .before .before .before .before .before .before .before .before .before .stretch .kept .1 .1 .1 .1 .0 ∙ c .before .before .before .before .before .before .before .before .before .before .before .before .before .before .before .before .before .before .before .before .before .before .before .before .before .before .before .before .before .before .before .before .before .loop .inv .0,
+      c .before .before .before .before .before .before .before .run .kept .1 .1 .1 .1 .1 .1 .0 ∙ c .before .before .before .before .before .before .before .before .before .before .before .before .before .before .before .before .before .before .before .before .before .before .before .before .before .before .before .before .before .before .stretch .kept .1 .1 .1 .1 .1 .0 ∙ c .before .before .before .before .before .before .before .before .before .before .before .before .before .before .before .before .before .before .before .before .before .before .before .before .before .before .before .before .before .before .before .before .before .loop .inv .1,
+      arm-back _ _ _ _ _ _ _ _ _ _ _ _ _ _ b _ _ (aims t (c .before .before .before .before .before .before .before .before .before .before .before .before .before .before)) _ _ (c .before .before .before .before .before .before .before .before .before .before .before .size-of .ensures ∙ ap (λ (o : Operand). length (spelling charstringRows o)) (c .before .before .before .before .before .before .before .before .before .before .before .before .before .before .before .before .before .before .before .unpack .ensures)) (c .before .before .before .before .before .before .before .before .before .before .enter .ensures) _ (c .before .before .before .before .before .before .before .before .before .before .before .before .before .before .before .before .before .before .choose .ensures) (c .before .before .before .before .before .before .before .run .result) _ _ (c .before .before .before .before .before .before .before .run .ensures) (c .before .enum-told .given .1),
+    )
 
 -- src/charstring.rt:65:33
 run-enum-told-2 : (t : ℕ) → Of run-lts.Need-enum-told-2 t
@@ -166,15 +228,16 @@ run-enum-told-2 t c = search needs
 
 -- src/charstring.rt:65:33
 run-same-length-5 : (t : ℕ) → Of run-lts.Need-same-length-5 t
-run-same-length-5 t c = ?
+run-same-length-5 t c = c .before .before .before .before .before .before .run .kept .1 .1 .1 .1 .1 .0 ∙ c .before .before .before .before .before .before .before .before .before .before .before .before .before .before .before .before .before .before .before .before .before .before .before .before .before .before .before .before .before .stretch .kept .1 .1 .1 .1 .0 ∙ c .before .before .before .before .before .before .before .before .before .before .before .before .before .before .before .before .before .before .before .before .before .before .before .before .before .before .before .before .before .before .before .before .loop .inv .0
 
 -- src/charstring.rt:65:33
 run-same-length-6 : (t : ℕ) → Of run-lts.Need-same-length-6 t
-run-same-length-6 t c = ?
+run-same-length-6 t c = c .before .before .before .before .before .before .run .kept .1 .1 .1 .1 .1 .1 .0 ∙ c .before .before .before .before .before .before .before .before .before .before .before .before .before .before .before .before .before .before .before .before .before .before .before .before .before .before .before .before .before .stretch .kept .1 .1 .1 .1 .1 .0 ∙ c .before .before .before .before .before .before .before .before .before .before .before .before .before .before .before .before .before .before .before .before .before .before .before .before .before .before .before .before .before .before .before .before .loop .inv .1
 
 -- src/charstring.rt:65:33
 run-returns-3 : (t : ℕ) → Of run-lts.Need-returns-3 t
-run-returns-3 t c = ?
+run-returns-3 t c = arm-passed _ _ _ _ _ _ _ _ _ _ _ _ _ _ (at-call t (c .before .before .before .before .before .before .before .before .before .before .before .before .before .before .before .before .before .before .before .before .before .before)) _ _ (aims t (c .before .before .before .before .before .before .before .before .before .before .before .before .before)) _ _ (c .before .before .before .before .before .before .before .before .before .before .size-of .ensures ∙ ap (λ (o : Operand). length (spelling charstringRows o)) (c .before .before .before .before .before .before .before .before .before .before .before .before .before .before .before .before .before .before .unpack .ensures)) (c .before .before .before .before .before .before .before .before .before .enter .ensures) _ (c .before .before .before .before .before .before .before .before .before .before .before .before .before .before .before .before .before .choose .ensures) (c .before .before .before .before .before .before .run .result) _ _ (c .before .before .before .before .before .before .run .ensures)
+    (ended-goes _ (c .enum-told2 .given .1))
 
 -- src/charstring.rt:68:33
 run-enum-told-3 : (t : ℕ) → Of run-lts.Need-enum-told-3 t
@@ -182,15 +245,16 @@ run-enum-told-3 t c = search needs
 
 -- src/charstring.rt:68:33
 run-same-length-7 : (t : ℕ) → Of run-lts.Need-same-length-7 t
-run-same-length-7 t c = ?
+run-same-length-7 t c = c .before .before .before .before .before .before .run .kept .1 .1 .1 .1 .1 .0 ∙ c .before .before .before .before .before .before .before .before .before .before .before .before .before .before .before .before .before .before .before .before .before .before .before .before .before .before .before .before .before .stretch .kept .1 .1 .1 .1 .0 ∙ c .before .before .before .before .before .before .before .before .before .before .before .before .before .before .before .before .before .before .before .before .before .before .before .before .before .before .before .before .before .before .before .before .loop .inv .0
 
 -- src/charstring.rt:68:33
 run-same-length-8 : (t : ℕ) → Of run-lts.Need-same-length-8 t
-run-same-length-8 t c = ?
+run-same-length-8 t c = c .before .before .before .before .before .before .run .kept .1 .1 .1 .1 .1 .1 .0 ∙ c .before .before .before .before .before .before .before .before .before .before .before .before .before .before .before .before .before .before .before .before .before .before .before .before .before .before .before .before .before .stretch .kept .1 .1 .1 .1 .1 .0 ∙ c .before .before .before .before .before .before .before .before .before .before .before .before .before .before .before .before .before .before .before .before .before .before .before .before .before .before .before .before .before .before .before .before .loop .inv .1
 
 -- src/charstring.rt:68:33
 run-returns-4 : (t : ℕ) → Of run-lts.Need-returns-4 t
-run-returns-4 t c = ?
+run-returns-4 t c = arm-passed _ _ _ _ _ _ _ _ _ _ _ _ _ _ (at-call t (c .before .before .before .before .before .before .before .before .before .before .before .before .before .before .before .before .before .before .before .before .before .before)) _ _ (aims t (c .before .before .before .before .before .before .before .before .before .before .before .before .before)) _ _ (c .before .before .before .before .before .before .before .before .before .before .size-of .ensures ∙ ap (λ (o : Operand). length (spelling charstringRows o)) (c .before .before .before .before .before .before .before .before .before .before .before .before .before .before .before .before .before .before .unpack .ensures)) (c .before .before .before .before .before .before .before .before .before .enter .ensures) _ (c .before .before .before .before .before .before .before .before .before .before .before .before .before .before .before .before .before .choose .ensures) (c .before .before .before .before .before .before .run .result) _ _ (c .before .before .before .before .before .before .run .ensures)
+    (refused-goes _ _ (c .enum-told3 .given .1))
 
 pub +run-spec : {M : Type 1} → statement M
 +run-spec = close μ-run λ t. run-lts.spec (callees t)

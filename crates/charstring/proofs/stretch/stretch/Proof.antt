@@ -4,7 +4,7 @@ use native.Mathlib.Nat.{le-refl}
 use native.Mathlib.Omega.{arith}
 use lib.ListN.{length, length-set}
 use borrow.Author.Needs.{needs}
-use Rattle.charstring.specs.StretchLaws.{Stands, Turn, Head, headed, asks, safe, operator-two}
+use Rattle.charstring.specs.StretchLaws.{Stands, Turn, Head, headed, asks, safe, few-tokens, few-operands, operator-two}
 use Rattle.charstring.specs.StretchLaws.{arm-push, arm-short, arm-clear, arm-mask, arm-out, arm-bad, arm-return, arm-end, arm-call}
 use Rattle.charstring.specs.declared.state.State.{State}
 use Rattle.charstring.specs.declared.look.Request.the-variants.{Push, Clears, Masks, Calls, Returns, Ends, Out as Empty, Bad, Short}
@@ -86,7 +86,7 @@ add-push c = let d = head (c .before .before .before .before .before .before .be
 
 -- src/stretch.rt:67:17
 push-requires : tie.Need-push-requires Inv-loop μ-loop
-push-requires c κs = let d = head (c .before .before .before .before .before .before .before .before .before) in let f = asks _ _ _ _ _ _ _ _ _ _ _ d (Short _ _ _) (c .before .before .before .before .before .before .before .next .given .1) in (omega (arith, d .numbers), d .numbers .tailed, omega (arith, f .0 .0))
+push-requires c κs = let d = head (c .before .before .before .before .before .before .before .before .before) in let f = asks _ _ _ _ _ _ _ _ _ _ _ d (Short _ _ _) (c .before .before .before .before .before .before .before .next .given .1) in (few-operands _ _ (d .numbers .room) (d .numbers .few), d .numbers .tailed, few-tokens _ _ (f .0 .0 .within) (omega (arith, c .before .before .before .before .before .before .before .before .before .before .before .before .before .before .good)))
 
 -- src/stretch.rt:60:5
 loop-less : tie.Need-loop-less Inv-loop μ-loop
@@ -111,7 +111,7 @@ put-operator-requires c κs = let d = head (c .before .before .before .before) i
 
 -- src/stretch.rt:72:17
 clear-requires : tie.Need-clear-requires Inv-loop μ-loop
-clear-requires c κs = let d = head (c .before .before .before .before .before .before .before) in let f = asks _ _ _ _ _ _ _ _ _ _ _ d (Clears _ _ _) (c .before .before .before .before .before .next2 .given .1) in omega (arith, f .0 .begun)
+clear-requires c κs = let d = head (c .before .before .before .before .before .before .before) in let f = asks _ _ _ _ _ _ _ _ _ _ _ d (Clears _ _ _) (c .before .before .before .before .before .next2 .given .1) in few-tokens _ _ (f .0 .begun .within) (omega arith)
 
 -- src/stretch.rt:60:5
 loop-less-2 : tie.Need-loop-less-2 Inv-loop μ-loop
@@ -148,7 +148,7 @@ slice-write-stack-2 c = let d = head (c .before .before .before .before .before 
 
 -- src/stretch.rt:79:17
 push-requires-2 : tie.Need-push-requires-2 Inv-loop μ-loop
-push-requires-2 c κs = let d = head (c .before .before .before .before .before .before .before .before) in let f = asks _ _ _ _ _ _ _ _ _ _ _ d (Push _ _) (c .before .before .before .before .before .before .next3 .given .1) in (omega (arith, d .numbers), d .numbers .tailed, omega (arith, f .0))
+push-requires-2 c κs = let d = head (c .before .before .before .before .before .before .before .before) in let f = asks _ _ _ _ _ _ _ _ _ _ _ d (Push _ _) (c .before .before .before .before .before .before .next3 .given .1) in (few-operands _ _ (d .numbers .room) (d .numbers .few), d .numbers .tailed, few-tokens _ _ (f .0 .within) (omega arith))
 
 -- src/stretch.rt:60:5
 loop-less-3 : tie.Need-loop-less-3 Inv-loop μ-loop
@@ -193,7 +193,7 @@ sub-mask c = let d = head (c .before .before .before .before .before .before .be
 
 -- src/stretch.rt:85:17
 mask-requires : tie.Need-mask-requires Inv-loop μ-loop
-mask-requires c κs = let d = head (c .before .before .before .before .before .before .before .before .before .before .before .before) in let f = asks _ _ _ _ _ _ _ _ _ _ _ d (Masks _ _ _ _ _) (c .before .before .before .before .before .before .before .before .before .before .a .given .1) in omega (arith, f .0 .begun)
+mask-requires c κs = let d = head (c .before .before .before .before .before .before .before .before .before .before .before .before) in let f = asks _ _ _ _ _ _ _ _ _ _ _ d (Masks _ _ _ _ _) (c .before .before .before .before .before .before .before .before .before .before .a .given .1) in few-tokens _ _ (f .0 .begun .within) (omega (arith, c .before .before .before .before .before .before .before .before .before .before .before .before .before .before .before .before .before .good))
 
 -- src/stretch.rt:60:5
 loop-less-4 : tie.Need-loop-less-4 Inv-loop μ-loop
@@ -231,7 +231,7 @@ enum-told c = search needs
 
 -- src/stretch.rt:95:30
 go-back-requires : tie.Need-go-back-requires Inv-loop μ-loop
-go-back-requires c κs = let d = head (c .before .before) in let f = asks _ _ _ _ _ _ _ _ _ _ _ d Returns (c .enum-told .given .1) in omega (arith, f .2 .begun)
+go-back-requires c κs = let d = head (c .before .before) in let f = asks _ _ _ _ _ _ _ _ _ _ _ d Returns (c .enum-told .given .1) in few-tokens _ _ (f .2 .begun .within) (omega arith)
 
 -- src/stretch.rt:95:17
 ended-requires : tie.Need-ended-requires Inv-loop μ-loop
@@ -260,7 +260,7 @@ put-operator-requires-3 c κs = let d = head (c .before .before .before .before)
 
 -- src/stretch.rt:99:30
 finish-requires : tie.Need-finish-requires Inv-loop μ-loop
-finish-requires c κs = let d = head (c .before .before .before .before .before .before .before) in let f = asks _ _ _ _ _ _ _ _ _ _ _ d (Ends _) (c .before .before .before .before .before .p .given .1) in omega (arith, f .1 .begun)
+finish-requires c κs = let d = head (c .before .before .before .before .before .before .before) in let f = asks _ _ _ _ _ _ _ _ _ _ _ d (Ends _) (c .before .before .before .before .before .p .given .1) in few-tokens _ _ (f .1 .begun .within) (omega arith)
 
 -- src/stretch.rt:99:17
 ended-requires-2 : tie.Need-ended-requires-2 Inv-loop μ-loop
