@@ -19,16 +19,16 @@ use Rattle.number.specs.RoundTrip.{read-width, read-inside, Width, one, two, th
 use Rattle.number.specs.Written.{spelling}
 use Rattle.number.specs.KeptLaws.{one-kept, two-kept}
 use Rattle.number.specs.declared.Operand.{Operand}
-use Rattle.charstring.specs.Words.{operandIn, shortOf}
-use Rattle.charstring.specs.Run.{Spelt, stays, Looked}
-use Rattle.charstring.specs.declared.look.Request.the-variants.{Clears, Short}
-use Rattle.charstring.proofs.Operators.{clears-alone, byte-is}
-use Rattle.charstring.specs.declared.state.State.{State}
 use Rattle.reading.specs.Rules.{Rules, byteKind, meant}
 use Rattle.reading.specs.declared.Rules.{Rules as CodeRules}
 use Rattle.reading.specs.declared.Operator.{Operator}
 use Rattle.reading.specs.declared.Kind.the-variants.{Clear}
 use Rattle.reading.specs.Tokens.{number, operator, token, lacking, escapedAt, operatorAt, cutBy, cut}
+use Rattle.charstring.specs.Words.{operandIn, shortOf}
+use Rattle.charstring.specs.Run.{Spelt, stays, Looked}
+use Rattle.charstring.specs.declared.look.Request.the-variants.{Clears, Short}
+use Rattle.charstring.proofs.Operators.{clears-alone, byte-is}
+use Rattle.charstring.specs.declared.state.State.{State}
 
 -- ---- an operator
 
@@ -126,7 +126,7 @@ module _ (b x : ℕ) where
       by-row r m e rest ∙ (λ i. accepted (record { operand = same i; width = q i }))
 
   module _ (low : 31 < b) (high : b < 255) where
-    pub short-read : (rest : List ℕ) → readBy charstringRows (b ∷ x ∷ rest) ≡ accepted (record { operand = shortOf b x; width = wideOf b })
+    short-read : (rest : List ℕ) → readBy charstringRows (b ∷ x ∷ rest) ≡ accepted (record { operand = shortOf b x; width = wideOf b })
     unfolding beAt
     short-read rest = go (decLt b 247) (decLt b 251)
       where
@@ -136,7 +136,7 @@ module _ (b x : ℕ) where
         go (no p) (no q) = rw (le-ltb b 247 (omega arith)) (of-row row251 (lit≤ tt) (at-below false b (omega arith) high) _ 2 refl (λ l. refl) rest)
 
     -- its bytes are its shortest form
-    pub short-spelt : x < 256 → Spelt b x (wideOf b)
+    short-spelt : x < 256 → Spelt b x (wideOf b)
     short-spelt s = go (decLt b 247)
       where
         bytes-of : (k : ℕ) → getD (b ∷ x ∷ []) k 0 < 256
@@ -164,7 +164,7 @@ module _ (cs : List ℕ) (i : ℕ) (h : i + 1 < length cs) (low : 31 < getD cs i
       let next : i + 1 ≡ suc i = omega arith in
       drop-cons cs i 0 (omega arith) ∙ ap (λ (l : List ℕ). getD cs i 0 ∷ l) (drop-cons cs (suc i) 0 (omega arith) ∙ rw next refl)
 
-  pub short-at : cut (drop i cs) ≡ token (number short-here) (drop (i + wideOf (getD cs i 0)) cs)
+  short-at : cut (drop i cs) ≡ token (number short-here) (drop (i + wideOf (getD cs i 0)) cs)
   unfolding cut cutBy
   short-at =
       ap (cutBy (drop i cs)) (ap (readBy charstringRows) two-there ∙ short-read (getD cs i 0) (getD cs (i + 1) 0) low high (drop (suc (suc i)) cs))

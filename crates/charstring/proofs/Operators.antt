@@ -18,7 +18,7 @@ past : (A : Type 0) (b : ℕ) (ks : List ℕ) → Past A b ks → A × (among b 
 past A b [] n = (n, refl)
 past A b (k ∷ ks) n = let m = past (A × (b ≡ k → ⊥)) b ks n in (m .0 .0, rw (ne-eqb b k (m .0 .1), m .1))
 
-abbrev pub Other : ℕ → List ℕ → Type 0
+abbrev Other : ℕ → List ℕ → Type 0
 Other b ks = Past (Unit {0}) b ks
 
 -- what `clears` answers, at a key and elsewhere
@@ -29,15 +29,26 @@ pub at-no-key : (b : ℕ) → Other b clearing → (false ≡ true → Clear ≡
 at-no-key b n = (λ t. let z : _≡_ {A = ℕ} 0 1 = cc in absurd (omega arith), λ t. past (Unit {0}) b clearing n .1)
 
 -- a byte that is none of the operators
-abbrev pub others : List ℕ
+abbrev others : List ℕ
 others = 1 ∷ 3 ∷ 10 ∷ 11 ∷ 14 ∷ 18 ∷ 19 ∷ 20 ∷ 23 ∷ 29 ∷ []
 
 pub unknown : (b : ℕ) → among b clearing ≡ false → Other b others → Unknown ≡ byteKind b
 unfolding byteKind
 unknown b c n =
     let ((((((((((none, n1), n3), n10), n11), n14), n18), n19), n20), n23), n29) = n in
-    rw (ne-eqb b 1 n1, ne-eqb b 3 n3, ne-eqb b 18 n18, ne-eqb b 23 n23, c, ne-eqb b 19 n19, ne-eqb b 20 n20,
-    ne-eqb b 10 n10, ne-eqb b 29 n29, ne-eqb b 11 n11, ne-eqb b 14 n14) refl
+    rw (
+      ne-eqb b 1 n1,
+      ne-eqb b 3 n3,
+      ne-eqb b 18 n18,
+      ne-eqb b 23 n23,
+      c,
+      ne-eqb b 19 n19,
+      ne-eqb b 20 n20,
+      ne-eqb b 10 n10,
+      ne-eqb b 29 n29,
+      ne-eqb b 11 n11,
+      ne-eqb b 14 n14,
+    ) refl
 
 -- an operator that clears the stack is neither the escape byte nor a number's first
 pub clears-alone : (b : ℕ) → Clear ≡ byteKind b → (b ≡ 12 → ⊥) × (b ≡ 28 → ⊥)
