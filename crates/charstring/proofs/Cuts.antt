@@ -19,21 +19,22 @@ use Rattle.number.specs.RoundTrip.{read-width, read-inside, Width, one, two, th
 use Rattle.number.specs.Written.{spelling}
 use Rattle.number.specs.KeptLaws.{one-kept, two-kept}
 use Rattle.number.specs.declared.Operand.{Operand}
-use Rattle.charstring.specs.Words.{operandIn, shortOf}
-use Rattle.charstring.specs.Run.{Spelt, stays, Looked}
-use Rattle.charstring.specs.declared.look.Request.the-variants.{Clears, Short}
-use Rattle.charstring.proofs.Operators.{clears-alone, byte-is}
-use Rattle.charstring.specs.declared.state.State.{State}
 use Rattle.reading.specs.Rules.{Rules, byteKind, meant}
 use Rattle.reading.specs.declared.Rules.{Rules as CodeRules}
 use Rattle.reading.specs.declared.Operator.{Operator}
 use Rattle.reading.specs.declared.Kind.the-variants.{Clear}
 use Rattle.reading.specs.Tokens.{number, operator, token, lacking, escapedAt, operatorAt, cutBy, cut}
+use Rattle.charstring.specs.Words.{operandIn, shortOf}
+use Rattle.charstring.specs.Run.{Spelt, stays, Looked}
+use Rattle.charstring.specs.declared.look.Request.the-variants.{Clears, Short}
+use Rattle.charstring.proofs.Operators.{clears-alone, byte-is}
+use Rattle.charstring.specs.declared.state.State.{State}
 
 -- ---- an operator
 
 module _ (cs : List ℕ) (i : ℕ) (h : i < length cs) where
-  opened : operatorAt (drop i cs) ≡ cond (eqb (getD cs i 0) 12) (escapedAt (drop (suc i) cs)) (token (operator (record { escaped = false; byte = getD cs i 0 })) (drop (suc i) cs))
+  opened : operatorAt (drop i cs)
+      ≡ cond (eqb (getD cs i 0) 12) (escapedAt (drop (suc i) cs)) (token (operator (record { escaped = false; byte = getD cs i 0 })) (drop (suc i) cs))
   unfolding operatorAt
   opened = rw (drop-cons cs i 0 h)
 
@@ -120,11 +121,12 @@ module _ (b x : ℕ) where
       → (rest : List ℕ) → readBy charstringRows (b ∷ x ∷ rest) ≡ accepted (record { operand = shortOf b x; width = w })
   unfolding shortOf operandIn
   of-row r m e v w q f rest =
-      let same : operandBy r b (beAt (b ∷ x ∷ rest) 1 (r .after)) ≡ shortOf b x = ap (operandBy r b) (f rest ∙ sym (f [])) ∙ ap operandIn (sym (by-row r m e [])) in
+      let same : operandBy r b (beAt (b ∷ x ∷ rest) 1 (r .after)) ≡ shortOf b x
+      = ap (operandBy r b) (f rest ∙ sym (f [])) ∙ ap operandIn (sym (by-row r m e [])) in
       by-row r m e rest ∙ (λ i. accepted (record { operand = same i; width = q i }))
 
   module _ (low : 31 < b) (high : b < 255) where
-    pub short-read : (rest : List ℕ) → readBy charstringRows (b ∷ x ∷ rest) ≡ accepted (record { operand = shortOf b x; width = wideOf b })
+    short-read : (rest : List ℕ) → readBy charstringRows (b ∷ x ∷ rest) ≡ accepted (record { operand = shortOf b x; width = wideOf b })
     unfolding beAt
     short-read rest = go (decLt b 247) (decLt b 251)
       where
@@ -134,7 +136,7 @@ module _ (b x : ℕ) where
         go (no p) (no q) = rw (le-ltb b 247 (omega arith)) (of-row row251 (lit≤ tt) (at-below false b (omega arith) high) _ 2 refl (λ l. refl) rest)
 
     -- its bytes are its shortest form
-    pub short-spelt : x < 256 → Spelt b x (wideOf b)
+    short-spelt : x < 256 → Spelt b x (wideOf b)
     short-spelt s = go (decLt b 247)
       where
         bytes-of : (k : ℕ) → getD (b ∷ x ∷ []) k 0 < 256
@@ -144,11 +146,14 @@ module _ (b x : ℕ) where
 
         go : Dec (b < 247) → Spelt b x (wideOf b)
         go (yes p) =
-            let e : spelling charstringRows (shortOf b x) ≡ b ∷ [] = one-kept false (b ∷ x ∷ []) bytes-of _ (sym (short-read [])) (rw (lt-ltb b 247 p)) in
+            let e : spelling charstringRows (shortOf b x) ≡ b ∷ []
+            = one-kept false (b ∷ x ∷ []) bytes-of _ (sym (short-read [])) (rw (lt-ltb b 247 p)) in
             rw (lt-ltb b 247 p) (record { others = x ∷ []; bytes = ap (λ (l : List ℕ). l ++ x ∷ []) (sym e); long = ap length e })
         go (no p) =
-            let e : spelling charstringRows (shortOf b x) ≡ b ∷ x ∷ [] = two-kept false (b ∷ x ∷ []) bytes-of _ (sym (short-read [])) (rw (le-ltb b 247 (omega arith))) in
-            rw (le-ltb b 247 (omega arith)) (record { others = []; bytes = sym e ∙ sym (append-nil (spelling charstringRows (shortOf b x))); long = ap length e })
+            let e : spelling charstringRows (shortOf b x) ≡ b ∷ x ∷ []
+            = two-kept false (b ∷ x ∷ []) bytes-of _ (sym (short-read [])) (rw (le-ltb b 247 (omega arith))) in
+            let all : b ∷ x ∷ [] ≡ spelling charstringRows (shortOf b x) ++ [] = sym e ∙ sym (append-nil (spelling charstringRows (shortOf b x))) in
+            rw (le-ltb b 247 (omega arith)) (record { others = []; bytes = all; long = ap length e })
 
 module _ (cs : List ℕ) (i : ℕ) (h : i + 1 < length cs) (low : 31 < getD cs i 0) (high : getD cs i 0 < 255) where
   abbrev short-here : Operand
@@ -159,7 +164,7 @@ module _ (cs : List ℕ) (i : ℕ) (h : i + 1 < length cs) (low : 31 < getD cs i
       let next : i + 1 ≡ suc i = omega arith in
       drop-cons cs i 0 (omega arith) ∙ ap (λ (l : List ℕ). getD cs i 0 ∷ l) (drop-cons cs (suc i) 0 (omega arith) ∙ rw next refl)
 
-  pub short-at : cut (drop i cs) ≡ token (number short-here) (drop (i + wideOf (getD cs i 0)) cs)
+  short-at : cut (drop i cs) ≡ token (number short-here) (drop (i + wideOf (getD cs i 0)) cs)
   unfolding cut cutBy
   short-at =
       ap (cutBy (drop i cs)) (ap (readBy charstringRows) two-there ∙ short-read (getD cs i 0) (getD cs (i + 1) 0) low high (drop (suc (suc i)) cs))
@@ -192,7 +197,8 @@ module _ (cs : List ℕ) (i : ℕ) (h : i < length cs) (c : Clear ≡ byteKind (
   clear-at =
       sym (byte-at cs i h (clears-alone (getD cs i 0) c .0) ∙ operator-there cs i h (sym no-number ∙ ap (readBy charstringRows) (sym (all-behind cs i h))))
 
-  pub clear-looked : (rules : CodeRules) (budget : ℕ) (s : State) → s .tokens < budget → Looked (meant rules) cs i budget s (Clears (i + 1) (s .hints) operator-here)
+  pub clear-looked : (rules : CodeRules) (budget : ℕ) (s : State) → s .tokens < budget
+      → Looked (meant rules) cs i budget s (Clears (i + 1) (s .hints) operator-here)
   clear-looked rules budget s t = (
     record { begun = record { ahead = omega arith; inside = omega arith; within = t }; cut-is = clear-at },
     stays (sym (c ∙ byte-is operator-here refl)) refl,

@@ -7,30 +7,48 @@ use native.Mathlib.Omega.{arith}
 use borrow.Author.Tests.{ne-eqb}
 use Rattle.reading.specs.Rules.{among, clearing, type2, byteKind, escapedKind}
 use Rattle.reading.specs.declared.Operator.{Operator}
-use Rattle.reading.specs.declared.Kind.{Kind}
 use Rattle.reading.specs.declared.Kind.the-variants.{Clear, Unknown}
 
--- b is none of these
-abbrev pub Apart : ℕ → List ℕ → Type 0
-Apart b [] = Unit {0}
-Apart b (k ∷ ks) = (b ≡ k → ⊥) × Apart b ks
+-- b is none of these, as the code's tests say it one behind the other
+abbrev Past : Type 0 → ℕ → List ℕ → Type 0
+Past A b [] = A
+Past A b (k ∷ ks) = Past (A × (b ≡ k → ⊥)) b ks
 
-apart : (b : ℕ) (ks : List ℕ) → Apart b ks → among b ks ≡ false
-apart b [] n = refl
-apart b (k ∷ ks) n = rw (ne-eqb b k (n .0), apart b ks (n .1))
+past : (A : Type 0) (b : ℕ) (ks : List ℕ) → Past A b ks → A × (among b ks ≡ false)
+past A b [] n = (n, refl)
+past A b (k ∷ ks) n = let m = past (A × (b ≡ k → ⊥)) b ks n in (m .0 .0, rw (ne-eqb b k (m .0 .1), m .1))
+
+abbrev Other : ℕ → List ℕ → Type 0
+Other b ks = Past (Unit {0}) b ks
 
 -- what `clears` answers, at a key and elsewhere
 pub at-key : (b k : ℕ) → b ≡ k → Clear ≡ byteKind k → (true ≡ true → Clear ≡ byteKind b) × (true ≡ false → among b clearing ≡ false)
 at-key b k e c = (λ t. c ∙ ap byteKind (sym e), λ t. let z : _≡_ {A = ℕ} 0 1 = cc in absurd (omega arith))
 
-pub at-no-key : (b : ℕ) → Apart b clearing → (false ≡ true → Clear ≡ byteKind b) × (false ≡ false → among b clearing ≡ false)
-at-no-key b n = (λ t. let z : _≡_ {A = ℕ} 0 1 = cc in absurd (omega arith), λ t. apart b clearing n)
+pub at-no-key : (b : ℕ) → Other b clearing → (false ≡ true → Clear ≡ byteKind b) × (false ≡ false → among b clearing ≡ false)
+at-no-key b n = (λ t. let z : _≡_ {A = ℕ} 0 1 = cc in absurd (omega arith), λ t. past (Unit {0}) b clearing n .1)
 
 -- a byte that is none of the operators
-pub unknown : (b : ℕ) → among b clearing ≡ false → Apart b (1 ∷ 3 ∷ 18 ∷ 23 ∷ []) → Apart b (19 ∷ 20 ∷ []) → Apart b (10 ∷ 29 ∷ 11 ∷ 14 ∷ []) → Unknown ≡ byteKind b
+abbrev others : List ℕ
+others = 1 ∷ 3 ∷ 10 ∷ 11 ∷ 14 ∷ 18 ∷ 19 ∷ 20 ∷ 23 ∷ 29 ∷ []
+
+pub unknown : (b : ℕ) → among b clearing ≡ false → Other b others → Unknown ≡ byteKind b
 unfolding byteKind
-unknown b c s m n =
-    rw (apart b (1 ∷ 3 ∷ 18 ∷ 23 ∷ []) s, c, apart b (19 ∷ 20 ∷ []) m, ne-eqb b 10 (n .0), ne-eqb b 29 (n .1 .0), ne-eqb b 11 (n .1 .1 .0), ne-eqb b 14 (n .1 .1 .1 .0)) refl
+unknown b c n =
+    let ((((((((((none, n1), n3), n10), n11), n14), n18), n19), n20), n23), n29) = n in
+    rw (
+      ne-eqb b 1 n1,
+      ne-eqb b 3 n3,
+      ne-eqb b 18 n18,
+      ne-eqb b 23 n23,
+      c,
+      ne-eqb b 19 n19,
+      ne-eqb b 20 n20,
+      ne-eqb b 10 n10,
+      ne-eqb b 29 n29,
+      ne-eqb b 11 n11,
+      ne-eqb b 14 n14,
+    ) refl
 
 -- an operator that clears the stack is neither the escape byte nor a number's first
 pub clears-alone : (b : ℕ) → Clear ≡ byteKind b → (b ≡ 12 → ⊥) × (b ≡ 28 → ⊥)

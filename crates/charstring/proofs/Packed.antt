@@ -4,7 +4,7 @@ use mathlib.Core.Bool.{true, false}
 use Prim.Native.Nat.{ℕ, _+_, _-_, _*_, _/_, _%_, _<_, _≤_, _^_}
 use native.Mathlib.Omega.{arith}
 use lib.Dec.{leb}
-use lib.IntN.{ℤ, pos, negsuc}
+use lib.IntN.{ℤ}
 use lib.Signed.{mag}
 use borrow.Author.Tests.{lt-ltb, le-ltb, le-leb, lt-leb}
 use mir.Syntax.{w32}
@@ -47,7 +47,8 @@ module _ (o : Operand) (bits : ℕ) (h : mag (o .value) < 2 ^ 31) (b : bits ≡ 
       let v = value-is (4294967296 + bits) (omega (arith, bits-fit)) in
       long-word (4294967296 + bits) (omega arith) ∙ (λ i. record { fixed = t i; value = v i })
 
-pub unpacked : (w : ℕ) (z : ℤ) → 65536 ≤ w → z ≡ signed (2 ^ 31) (w % 4294967296) → _≡_ {A = Operand} (record { fixed = leb 8589934592 w; value = z }) (unpackOf w)
+pub unpacked : (w : ℕ) (z : ℤ) → 65536 ≤ w → z ≡ signed (2 ^ 31) (w % 4294967296)
+    → _≡_ {A = Operand} (record { fixed = leb 8589934592 w; value = z }) (unpackOf w)
 unpacked w z h e = (λ i. record { fixed = leb 8589934592 w; value = e i }) ∙ sym (long-word w h)
 
 -- two bytes

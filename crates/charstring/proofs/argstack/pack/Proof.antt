@@ -3,9 +3,6 @@ use Rattle.charstring.proofs.Packed.{passed, packed-fixed, packed-integ
 use borrow.Author.Needs.{needs}
 use Rattle.charstring.proofs.argstack.pack.Statement.{statement}
 use Rattle.charstring.proofs.argstack.pack.Tie as tie
-use Rattle.charstring.proofs.argstack.pack.Reads as reads
-use Rattle.charstring.proofs.argstack.pack.Lts as lts
-use Rattle.number.proofs.bits_of.Reads as bits-of-reads
 
 bits-of-requires : tie.Need-bits-of-requires
 bits-of-requires c κs = search needs

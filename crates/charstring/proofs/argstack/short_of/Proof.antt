@@ -38,7 +38,9 @@ returns c = none-there _ (c .before .read-charstring-number .result) (c .match .
 
 returns-2 : tie.Need-returns-2
 unfolding shortOf operandIn
-returns-2 c = ap (λ (r : NumberRead). operandIn (numberRead r)) (sym (c .before .o .given .1)) ∙ ap operandIn (c .before .before .before .read-charstring-number .ensures)
+returns-2 c =
+    ap (λ (r : NumberRead). operandIn (numberRead r)) (sym (c .before .o .given .1))
+    ∙ ap operandIn (c .before .before .before .read-charstring-number .ensures)
 
 pub short-of-spec : {M : Type 1} → statement M
 short-of-spec =

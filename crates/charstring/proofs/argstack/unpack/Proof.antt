@@ -4,10 +4,6 @@ use Rattle.charstring.proofs.Packed.{unpacked, unpacked-short}
 use borrow.Author.Needs.{needs}
 use Rattle.charstring.proofs.argstack.unpack.Statement.{statement}
 use Rattle.charstring.proofs.argstack.unpack.Tie as tie
-use Rattle.charstring.proofs.argstack.unpack.Reads as reads
-use Rattle.charstring.proofs.argstack.unpack.Lts as lts
-use Rattle.charstring.proofs.argstack.short_of.Reads as short-of-reads
-use Rattle.number.proofs.value_of.Reads as value-of-reads
 
 cast-short-of : tie.Need-cast-short-of
 cast-short-of c = search needs

@@ -5,11 +5,6 @@ use native.Mathlib.Omega.{arith}
 use borrow.Author.Needs.{needs}
 use Rattle.charstring.proofs.look.ask.Statement.{statement}
 use Rattle.charstring.proofs.look.ask.Tie as tie
-use Rattle.charstring.proofs.look.ask.Reads as reads
-use Rattle.charstring.proofs.look.ask.Lts as lts
-use Rattle.charstring.proofs.look.ask_mask.Reads as ask-mask-reads
-use Rattle.charstring.proofs.look.ask_stem.Reads as ask-stem-reads
-use Rattle.charstring.proofs.operator.kind_of.Reads as kind-of-reads
 
 kind-of-requires : tie.Need-kind-of-requires
 kind-of-requires c κs = search needs
@@ -33,7 +28,9 @@ enum-known-which : tie.Need-enum-known-which
 enum-known-which c = search needs
 
 returns : tie.Need-returns
-returns c = no-index _ _ _ _ _ (c .before .before .before .which .given .0 .0) (sym (c .before .before .before .before .before .kind-of .ensures) ∙ c .before .before .before .which .given .1) (omega arith)
+returns c =
+    let which = c .before .before .before .which in
+    no-index _ _ _ _ _ (which .given .0 .0) (sym (c .before .before .before .before .before .kind-of .ensures) ∙ which .given .1) (omega arith)
 
 enum-told-4 : tie.Need-enum-told-4
 enum-told-4 c = search needs

@@ -6,8 +6,6 @@ use native.Mathlib.Omega.{arith}
 use borrow.Author.Needs.{needs}
 use Rattle.charstring.proofs.look.ask_mask.Statement.{statement}
 use Rattle.charstring.proofs.look.ask_mask.Tie as tie
-use Rattle.charstring.proofs.look.ask_mask.Reads as reads
-use Rattle.charstring.proofs.look.ask_mask.Lts as lts
 
 returns : tie.Need-returns
 returns c = later-many _ _ _ _ _ (c .before .before .before .before .before .pre .1) (λ z. omega arith) (omega arith)
@@ -22,7 +20,9 @@ add-t11 : tie.Need-add-t11
 add-t11 c = search needs
 
 returns-3 : tie.Need-returns-3
-returns-3 c = (refl, refl, c .before .before .before .before .before .before .before .before .pre .1, omega arith, omega arith, omega arith, later (λ z. omega arith) refl refl (add-sub-cancel-left _ _))
+returns-3 c =
+    let mask = c .before .before .before .before .before .before .before .before .pre .1 in
+    (refl, refl, mask, omega arith, omega arith, omega arith, later (λ z. omega arith) refl refl (add-sub-cancel-left _ _))
 
 add-h : tie.Need-add-h
 add-h c = search needs
@@ -43,7 +43,9 @@ add-t13 : tie.Need-add-t13
 add-t13 c = search needs
 
 returns-6 : tie.Need-returns-6
-returns-6 c = (refl, refl, c .before .before .before .before .before .before .before .pre .1, omega arith, omega arith, omega arith, first (omega arith) refl refl (add-sub-cancel-left _ _))
+returns-6 c =
+    let mask = c .before .before .before .before .before .before .before .pre .1 in
+    (refl, refl, mask, omega arith, omega arith, omega arith, first (omega arith) refl refl (add-sub-cancel-left _ _))
 
 pub ask-mask-spec : {M : Type 1} → statement M
 ask-mask-spec =

@@ -5,8 +5,6 @@ use native.Mathlib.Omega.{arith}
 use borrow.Author.Needs.{needs}
 use Rattle.charstring.proofs.look.ask_stem.Statement.{statement}
 use Rattle.charstring.proofs.look.ask_stem.Tie as tie
-use Rattle.charstring.proofs.look.ask_stem.Reads as reads
-use Rattle.charstring.proofs.look.ask_stem.Lts as lts
 
 add-h : tie.Need-add-h
 add-h c = search needs

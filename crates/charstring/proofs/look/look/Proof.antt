@@ -11,13 +11,11 @@ use lib.ListN.{length, getD}
 use borrow.Author.Needs.{needs}
 use Rattle.charstring.proofs.look.look.Statement.{statement}
 use Rattle.charstring.proofs.look.look.Tie as tie
-use Rattle.charstring.proofs.look.look.Reads as reads
-use Rattle.charstring.proofs.look.look.Lts as lts
-use Rattle.charstring.proofs.look.look_at.Reads as look-at-reads
-use Rattle.charstring.proofs.operator.clears.Reads as clears-reads
 
 -- where the token behind a short number starts
-next-is : (c : tie.Joined7) → let args = c .before .before .before .before .before .before .before .before .before .before .before .before .before .args in c .if7 .next ≡ args .i + wideOf (getD (args .cs .now) (args .i) 0)
+next-is : (c : tie.Joined7)
+    → let args = c .before .before .before .before .before .before .before .before .before .before .before .before .before .args in
+    c .if7 .next ≡ args .i + wideOf (getD (args .cs .now) (args .i) 0)
 next-is c =
     let g = c .before .before .before .before .before .before .before .before .before .before .before .before .before .args in
     let b = getD (g .cs .now) (g .i) 0 in
@@ -53,9 +51,10 @@ shared-slice-read-t21 c = search needs
 returns-3 : tie.Need-returns-3
 returns-3 c =
     let g = c .before .before .before .before .before .before .before .before .before .before .before .before .before .before .args in
-    short-looked (g .cs .now) (g .i) (ltb-true (g .i + 1) (length (g .cs .now)) (c .before .before .before .before .before .if5 .taken)) (omega arith) (omega arith)
-    (meant (g .by .rules)) (g .by .budget) (g .s) _ (omega arith)
-    (ltb-true (g .s .count) (g .by .rules .operands) (c .before .before .if6 .taken)) (c .shared-slice-known3 .given (g .i + 1) .fits) (next-is (c .before))
+    let more = ltb-true (g .i + 1) (length (g .cs .now)) (c .before .before .before .before .before .if5 .taken) in
+    let room = ltb-true (g .s .count) (g .by .rules .operands) (c .before .before .if6 .taken) in
+    short-looked (g .cs .now) (g .i) more (omega arith) (omega arith)
+    (meant (g .by .rules)) (g .by .budget) (g .s) _ (omega arith) room (c .shared-slice-known3 .given (g .i + 1) .fits) (next-is (c .before))
 
 clears-requires : tie.Need-clears-requires
 clears-requires c κs = search needs
@@ -66,7 +65,8 @@ add-t23 c = search needs
 returns-4 : tie.Need-returns-4
 returns-4 c =
     let g = c .before .before .before .before .before .before .before .before .before .args in
-    clear-looked (g .cs .now) (g .i) (omega arith) (c .before .clears .ensures .0 (search needs)) (omega arith) (g .by .rules) (g .by .budget) (g .s) (omega arith)
+    clear-looked (g .cs .now) (g .i) (omega arith) (c .before .clears .ensures .0 (search needs)) (omega arith)
+    (g .by .rules) (g .by .budget) (g .s) (omega arith)
 
 look-at-requires : tie.Need-look-at-requires
 look-at-requires c κs = search needs

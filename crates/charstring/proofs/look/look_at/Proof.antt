@@ -9,10 +9,6 @@ use native.Mathlib.Omega.{arith}
 use borrow.Author.Needs.{needs}
 use Rattle.charstring.proofs.look.look_at.Statement.{statement}
 use Rattle.charstring.proofs.look.look_at.Tie as tie
-use Rattle.charstring.proofs.look.look_at.Reads as reads
-use Rattle.charstring.proofs.look.look_at.Lts as lts
-use Rattle.charstring.proofs.look.ask.Reads as ask-reads
-use Rattle.charstring.proofs.token.token_at.Reads as token-at-reads
 
 -- where a number is bound, and where an operator is
 number-cut : (c : tie.After-next)
@@ -70,7 +66,8 @@ returns-3 c =
 returns-4 : tie.Need-returns-4
 returns-4 c =
     λ budget l. let a = operator-ahead (c .before .before) in let g = c .before .before .before .before .before .before .args in
-    asked (meant (g .rules)) (g .cs .now) (g .i) budget (g .s) (omega arith) l _ _ (operator-cut (c .before .before)) (a .0) (a .1) (c .ask .result) (c .ask .ensures)
+    asked (meant (g .rules)) (g .cs .now) (g .i) budget (g .s) (omega arith) l _ _ (operator-cut (c .before .before)) (a .0) (a .1)
+    (c .ask .result) (c .ask .ensures)
 
 pub look-at-spec : {M : Type 1} → statement M
 look-at-spec =

@@ -52,11 +52,9 @@ unfolding byteKind
 returns-11 c = ap byteKind (sym (c .match .keys10))
 
 returns-12 : tie.Need-returns-12
-returns-12 c =
-    let n = c .match .rest in
-    unknown _ (c .before .before .clears .ensures .1 (search needs))
-    (n .0 .0 .0 .0 .0 .0 .0 .0 .0 .1, (n .0 .0 .0 .0 .0 .0 .0 .0 .1, (n .0 .0 .0 .0 .1, (n .0 .1, tt)))) (n .0 .0 .0 .1, (n .0 .0 .1, tt))
-    (n .0 .0 .0 .0 .0 .0 .0 .1, (n .1, (n .0 .0 .0 .0 .0 .0 .1, (n .0 .0 .0 .0 .0 .1, tt))))
+returns-12 c = unknown _ (c .before .before .clears .ensures .1 (search needs)) (c .match .rest)
 
 pub byte-kind-spec : {M : Type 1} → statement M
-byte-kind-spec = tie.close (tie.spec clears-requires returns returns-2 returns-3 returns-4 returns-5 returns-6 returns-7 returns-8 returns-9 returns-10 returns-11 returns-12)
+byte-kind-spec =
+    tie.close
+    (tie.spec clears-requires returns returns-2 returns-3 returns-4 returns-5 returns-6 returns-7 returns-8 returns-9 returns-10 returns-11 returns-12)

@@ -57,12 +57,9 @@ unfolding byteKind
 returns-13 c = at-key _ 31 (c .match .keys13) refl
 
 returns-14 : tie.Need-returns-14
-returns-14 c =
-    let n = c .match .rest in
-    at-no-key _ (
-      n .0 .0 .0 .0 .0 .0 .0 .0 .0 .0 .0 .0 .1,
-      (n .0 .0 .0 .0 .0 .0 .0 .0 .0 .0 .0 .1, (n .0 .0 .0 .0 .0 .0 .0 .0 .0 .0 .1, (n .0 .0 .0 .0 .0 .0 .0 .0 .0 .1, (n .0 .0 .0 .0 .0 .0 .0 .0 .1, (n .0 .0 .0 .0 .0 .0 .0 .1, (n .0 .0 .0 .0 .0 .0 .1, (n .0 .0 .0 .0 .0 .1, (n .0 .0 .0 .0 .1, (n .0 .0 .0 .1, (n .0 .0 .1, (n .0 .1, (n .1, tt)))))))))))),
-    )
+returns-14 c = at-no-key _ (c .match .rest)
 
 pub clears-spec : {M : Type 1} → statement M
-clears-spec = tie.close (tie.spec returns returns-2 returns-3 returns-4 returns-5 returns-6 returns-7 returns-8 returns-9 returns-10 returns-11 returns-12 returns-13 returns-14)
+clears-spec =
+    tie.close
+    (tie.spec returns returns-2 returns-3 returns-4 returns-5 returns-6 returns-7 returns-8 returns-9 returns-10 returns-11 returns-12 returns-13 returns-14)

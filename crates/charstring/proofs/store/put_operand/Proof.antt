@@ -5,13 +5,11 @@ use mathlib.Core.Path.{refl}
 use borrow.Author.Needs.{needs}
 use Rattle.charstring.proofs.store.put_operand.Statement.{statement}
 use Rattle.charstring.proofs.store.put_operand.Tie as tie
-use Rattle.charstring.proofs.store.put_operand.Reads as reads
-use Rattle.charstring.proofs.store.put_operand.Lts as lts
-use Rattle.charstring.proofs.store.put_bytes.Reads as put-bytes-reads
-use Rattle.number.proofs.write_charstring_number.Reads as write-charstring-number-reads
 
 -- where the bytes are held
-written : (c : tie.After-n) → Starts (c .n .given .0 .0) (c .before .before .before .write-charstring-number .last .1 .0) (spelling charstringRows (c .before .before .before .before .before .before .args .o))
+written : (c : tie.After-n)
+    → let o = c .before .before .before .before .before .before .args .o in
+    Starts (c .n .given .0 .0) (c .before .before .before .write-charstring-number .last .1 .0) (spelling charstringRows o)
 written c = some-written _ refl _ _ _ (c .before .before .before .write-charstring-number .ensures) _ (c .n .given .1)
 
 slice-aggregate-write-charstring-number : tie.Need-slice-aggregate-write-charstring-number
@@ -24,7 +22,9 @@ enum-known-n : tie.Need-enum-known-n
 enum-known-n c = search needs
 
 returns : tie.Need-returns
-returns c = stored-none _ _ (none-written _ refl _ (c .before .before .write-charstring-number .result) _ (c .before .before .write-charstring-number .ensures) (c .match .keys2))
+returns c =
+    let wrote = c .before .before .write-charstring-number in
+    stored-none _ _ (none-written _ refl _ (wrote .result) _ (wrote .ensures) (c .match .keys2))
 
 array-share-prefix-held : tie.Need-array-share-prefix-held
 array-share-prefix-held c = starts-within _ _ _ (written (c .before .before))
@@ -39,7 +39,9 @@ same-length : tie.Need-same-length
 same-length c = search needs
 
 returns-2 : tie.Need-returns-2
-returns-2 c = stored-as _ _ (written (c .before .before .before .before .before .before) .first) (c .before .before .put-bytes .ensures .0) (c .before .before .put-bytes .ensures .1)
+returns-2 c =
+    let put = c .before .before .put-bytes in
+    stored-as _ _ (written (c .before .before .before .before .before .before) .first) (put .ensures .0) (put .ensures .1)
 
 pub put-operand-spec : {M : Type 1} → statement M
 put-operand-spec =

@@ -10,7 +10,9 @@ same-length : tie.Need-same-length
 same-length c = search needs
 
 returns : tie.Need-returns
-returns c = stored-as _ _ (escaped-bytes (c .before .before .before .before .before .before .args .p) (search needs)) (c .before .before .put-two .ensures .0) (c .before .before .put-two .ensures .1)
+returns c =
+    let put = c .before .before .put-two in
+    stored-as _ _ (escaped-bytes (c .before .before .before .before .before .before .args .p) (search needs)) (put .ensures .0) (put .ensures .1)
 
 put-byte-requires : tie.Need-put-byte-requires
 put-byte-requires c κs = search needs
@@ -19,7 +21,9 @@ same-length-2 : tie.Need-same-length-2
 same-length-2 c = search needs
 
 returns-2 : tie.Need-returns-2
-returns-2 c = stored-as _ _ (one-byte (c .before .before .before .before .before .before .args .p) (search needs)) (c .before .before .put-byte .ensures .0) (c .before .before .put-byte .ensures .1)
+returns-2 c =
+    let put = c .before .before .put-byte in
+    stored-as _ _ (one-byte (c .before .before .before .before .before .before .args .p) (search needs)) (put .ensures .0) (put .ensures .1)
 
 pub put-operator-spec : {M : Type 1} → statement M
 put-operator-spec =

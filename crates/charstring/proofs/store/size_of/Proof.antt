@@ -6,9 +6,6 @@ use lib.ListN.{length}
 use borrow.Author.Needs.{needs}
 use Rattle.charstring.proofs.store.size_of.Statement.{statement}
 use Rattle.charstring.proofs.store.size_of.Tie as tie
-use Rattle.charstring.proofs.store.size_of.Reads as reads
-use Rattle.charstring.proofs.store.size_of.Lts as lts
-use Rattle.number.proofs.charstring_form.Reads as charstring-form-reads
 
 charstring-form-requires : tie.Need-charstring-form-requires
 charstring-form-requires c κs = search needs
@@ -23,7 +20,10 @@ returns : tie.Need-returns
 returns c = ap length (coded-none false _ _ (c .before .before .charstring-form .ensures) (c .enum-told .given .1))
 
 add-result : tie.Need-add-result
-add-result c = let h = coded-after false (c .before .before .before .before .before .args .o) _ (c .before .before .before .before .charstring-form .ensures) _ (c .before .before .form .given .1) in omega arith
+add-result c =
+    let o = c .before .before .before .before .before .args .o in
+    let h = coded-after false o _ (c .before .before .before .before .charstring-form .ensures) _ (c .before .before .form .given .1) in
+    omega arith
 
 returns-2 : tie.Need-returns-2
 returns-2 c = coded-length false _ _ (c .before .before .before .before .charstring-form .ensures) _ (c .before .before .form .given .1)

@@ -15,9 +15,6 @@ use Rattle.charstring.proofs.Targets.{no-entry, too-deep, not-last, ent
 use borrow.Author.Needs.{needs}
 use Rattle.charstring.proofs.subroutines.admit.Statement.{statement}
 use Rattle.charstring.proofs.subroutines.admit.Tie as tie
-use Rattle.charstring.proofs.subroutines.admit.Reads as reads
-use Rattle.charstring.proofs.subroutines.admit.Lts as lts
-use Rattle.index.proofs.read_entry.Reads as read-entry-reads
 
 -- what is no entry, by each of its reasons
 none-read : (levels tail : ℕ) (x : Answer Place) (r : EntryRead) → OneOf (1 ∷ 2 ∷ 3 ∷ []) (tagOf entry-type.the-type r) → entryRead r ≡ x

@@ -5,10 +5,6 @@ use Rattle.charstring.proofs.Targets.{aimed-entry, aimed-none}
 use borrow.Author.Needs.{needs}
 use Rattle.charstring.proofs.subroutines.aim.Statement.{statement}
 use Rattle.charstring.proofs.subroutines.aim.Tie as tie
-use Rattle.charstring.proofs.subroutines.aim.Reads as reads
-use Rattle.charstring.proofs.subroutines.aim.Lts as lts
-use Rattle.charstring.proofs.subroutines.admit.Reads as admit-reads
-use Rattle.number.proofs.callee_of.Reads as callee-of-reads
 
 callee-of-requires : tie.Need-callee-of-requires
 callee-of-requires c κs = search needs
@@ -29,7 +25,7 @@ returns : tie.Need-returns
 returns c =
     let args = c .before .before .before .before .before .before .args in
     let e = ap calleeOf (sym (c .before .before .k .given .1)) ∙ c .before .before .before .before .callee-of .ensures in
-    (c .admit .ensures .0 ∙ aimed-entry (meant (args .rules)) _ _ _ _ _ _ e, c .admit .ensures .1)
+    (aimed-entry (meant (args .rules)) _ _ _ _ _ _ e (c .admit .ensures .0), c .admit .ensures .1)
 
 returns-2 : tie.Need-returns-2
 returns-2 c = (aimed-none _ _ _ _ _ _ 7 (ap calleeOf (sym (c .enum-told .given .1)) ∙ c .before .before .callee-of .ensures), tt)

@@ -50,7 +50,9 @@ returns c =
     )
 
 returns-2 : tie.Need-returns-2
-returns-2 c = (missing-at _ _ (c .before .before .before .before .before .pre) (ap numberRead (sym (c .enum-told .given .1)) ∙ c .before .before .read-charstring-number .ensures), tt)
+returns-2 c =
+    let e = ap numberRead (sym (c .enum-told .given .1)) ∙ c .before .before .read-charstring-number .ensures in
+    (missing-at _ _ (c .before .before .before .before .before .pre) e, tt)
 
 returns-3 : tie.Need-returns-3
 returns-3 c = (
