@@ -4,19 +4,16 @@ use mathlib.Core.Path.{_≡_, refl, sym, ap, _∙_}
 use mathlib.Core.Bool.{cond}
 use Prim.Native.Nat.{ℕ}
 use lib.Dec.{eqb}
-use lib.ListN.{getD}
 use borrow.Fn.Kinds.{Dens, resT, endedOf}
 use contract.Lifetimes.{Lfts}
 use denote.Triple.Clauses.{AtExit}
-use Rattle.number.specs.Answer.{Answer, accepted, refused}
-use Rattle.reading.specs.Answers.{Flattening, Outcome, numberOf, flattened}
+use Rattle.number.specs.Answer.{Answer, accepted, refused, lengthOr, tokensOr}
+use Rattle.number.specs.AnswerLaws.{answer-as, left-as}
+use Rattle.reading.specs.Answers.{Flattening, numberOf, flattened}
 use Rattle.reading.specs.declared.Refusal.{Refusal}
 use Rattle.reading.specs.declared.Refusal.the-variants.{BudgetSpent, BytesLacking, TooManyOperands, UnknownOperator, NoIndex, IndexNotLast, NoEntry, TooDeep, TooManyHints, Composite}
 use Rattle.reading.specs.declared.Flattened.{Flattened}
 use Rattle.reading.specs.declared.Flattened.the-variants.{Accepted, BadGlobals, BadLocals, Refused, NoRoom}
-use Rattle.charstring.specs.Verdicts.{Verdict, flat-of, stopped-by, measured}
-use Rattle.charstring.specs.declared.flattening.Measured.{Measured}
-use Rattle.charstring.specs.declared.flattening.Measured.the-variants.{Flat, Stopped}
 use Rattle.charstring.proofs.flattening.flatten.Kinds as flatten-kinds
 use Rattle.charstring.proofs.flattening.flatten.Reads as flatten-reads
 use Rattle.charstring.proofs.flattening.write.Kinds as write-kinds
@@ -47,7 +44,8 @@ refusal-undo Composite = refl
 flattened-of : Answer Flattening → Flattened
 flattened-of (accepted x) = Accepted (x .size) (x .tokens)
 flattened-of (refused k v) =
-    cond (eqb k 1) BadGlobals (cond (eqb k 2) BadLocals (cond (eqb k 13) (NoRoom (getD v 0 0) (getD v 1 0)) (Refused (refusal-of k) (getD v 0 0))))
+    cond (eqb k 1) BadGlobals (cond (eqb k 2) BadLocals
+    (cond (eqb k 13) (NoRoom (lengthOr 0 v) (tokensOr 0 v)) (Refused (refusal-of k) (tokensOr 0 v))))
 
 -- a refusal's number is none of 1, 2 and 13
 as-refused : (k : Refusal) (t : ℕ) → flattened-of (flattened (Refused k t)) ≡ Refused (refusal-of (numberOf k)) t
@@ -71,28 +69,21 @@ flattened-undo BadLocals = refl
 flattened-undo (Refused k t) = as-refused k t ∙ ap (λ (j : Refusal). Refused j t) (refusal-undo k)
 flattened-undo (NoRoom n t) = refl
 
-measured-of : Verdict → Measured
-measured-of (flat-of n t) = Flat n t
-measured-of (stopped-by k t) = Stopped (refusal-of k) t
-
-measured-undo : (r : Measured) → measured-of (measured r) ≡ r
-unfolding measured-of
-measured-undo (Flat n t) = refl
-measured-undo (Stopped k t) = ap (λ (j : Refusal). Stopped j t) (refusal-undo k)
-
 -- ---- the contracts
 
-told-once : (r r′ : Flattened) → flattened r ≡ flattened r′ → r ≡ r′
+pub told-once : (r r′ : Flattened) → flattened r ≡ flattened r′ → r ≡ r′
 told-once r r′ e = sym (flattened-undo r) ∙ ap flattened-of e ∙ flattened-undo r′
 
-pub flatten-once : (κs : Lfts 2) (a : Dens κs flatten-kinds.ps) (r r′ : resT flatten-kinds.r κs .Denot) (x x′ : AtExit (endedOf 2 flatten-kinds.ps flatten-kinds.r) κs)
-    → flatten-reads.Post κs a r x → flatten-reads.Post κs a r′ x′ → (r ≡ r′) × (x .1 .1 .1 .1 .1 .0 .now ≡ x′ .1 .1 .1 .1 .1 .0 .now)
-flatten-once κs a r r′ x x′ p p′ = let e = p ∙ sym p′ in (told-once r r′ (ap (λ (o : Outcome). o .answer) e), ap (λ (o : Outcome). o .left) e)
+pub flatten-once : (κs : Lfts 2) (a : Dens κs flatten-kinds.ps) (r r′ : resT flatten-kinds.r κs .Denot)
+    (x x′ : AtExit (endedOf 2 flatten-kinds.ps flatten-kinds.r) κs) → flatten-reads.Post κs a r x → flatten-reads.Post κs a r′ x′
+    → (r ≡ r′) × (x .1 .1 .1 .1 .1 .0 .now ≡ x′ .1 .1 .1 .1 .1 .0 .now)
+flatten-once κs a r r′ x x′ p p′ = let e = p ∙ sym p′ in (told-once r r′ (answer-as e), left-as e)
 
-pub write-once : (κs : Lfts 2) (a : Dens κs write-kinds.ps) (r r′ : resT write-kinds.r κs .Denot) (x x′ : AtExit (endedOf 2 write-kinds.ps write-kinds.r) κs)
-    → write-reads.Post κs a r x → write-reads.Post κs a r′ x′ → (r ≡ r′) × (x .1 .1 .1 .1 .1 .0 .now ≡ x′ .1 .1 .1 .1 .1 .0 .now)
-write-once κs a r r′ x x′ p p′ = let e = p ∙ sym p′ in (told-once r r′ (ap (λ (o : Outcome). o .answer) e), ap (λ (o : Outcome). o .left) e)
+pub write-once : (κs : Lfts 2) (a : Dens κs write-kinds.ps) (r r′ : resT write-kinds.r κs .Denot)
+    (x x′ : AtExit (endedOf 2 write-kinds.ps write-kinds.r) κs) → write-reads.Post κs a r x → write-reads.Post κs a r′ x′
+    → (r ≡ r′) × (x .1 .1 .1 .1 .1 .0 .now ≡ x′ .1 .1 .1 .1 .1 .0 .now)
+write-once κs a r r′ x x′ p p′ = let e = p ∙ sym p′ in (told-once r r′ (answer-as e), left-as e)
 
-pub measure-once : (κs : Lfts 1) (a : Dens κs measure-kinds.ps) (r r′ : resT measure-kinds.r κs .Denot) (x x′ : AtExit (endedOf 1 measure-kinds.ps measure-kinds.r) κs)
-    → measure-reads.Post κs a r x → measure-reads.Post κs a r′ x′ → r ≡ r′
-measure-once κs a r r′ x x′ p p′ = sym (measured-undo r) ∙ ap measured-of (p ∙ sym p′) ∙ measured-undo r′
+pub measure-once : (κs : Lfts 1) (a : Dens κs measure-kinds.ps) (r r′ : resT measure-kinds.r κs .Denot)
+    (x x′ : AtExit (endedOf 1 measure-kinds.ps measure-kinds.r) κs) → measure-reads.Post κs a r x → measure-reads.Post κs a r′ x′ → r ≡ r′
+measure-once κs a r r′ x x′ p p′ = told-once r r′ (p ∙ sym p′)

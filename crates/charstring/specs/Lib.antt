@@ -9,3 +9,4 @@ pub mod EndLaws
 pub mod EnterLaws
 pub mod StretchLaws
 pub mod LoopLaws
+pub mod VerdictLaws

@@ -8,7 +8,7 @@ use lib.IntN.{ℤ}
 use borrow.Fn.Kinds.{Dens, resT, endedOf}
 use contract.Lifetimes.{Lfts}
 use denote.Triple.Clauses.{AtExit}
-use Rattle.number.specs.Answer.{Values, alone, atToken, needing, needingAt, Answer, accepted, refused, Outcome}
+use Rattle.number.specs.Answer.{Answer, accepted, refused, lengthOr, Outcome}
 use Rattle.number.specs.Number.{Number, numberRead}
 use Rattle.number.specs.Written.{coded, numberWritten, integerWritten}
 use Rattle.number.specs.Call.{wholeOf, calleeOf}
@@ -64,13 +64,6 @@ use Rattle.number.proofs.call.Callee.number.Reads as callee-number-read
 one-of : {A B : Type 0} (to : A → B) (back : B → A) → ((x : A) → back (to x) ≡ x) → (x y : A) → to x ≡ to y → x ≡ y
 one-of to back undone x y e = sym (undone x) ∙ ap back e ∙ undone y
 
--- the length that comes with a refusal
-lengthIn : Values → ℕ
-lengthIn alone = 0
-lengthIn (atToken t) = 0
-lengthIn (needing n) = n
-lengthIn (needingAt n t) = n
-
 read-back : Answer Number → NumberRead
 read-back (accepted x) = Read (x .operand) (x .width)
 read-back (refused n v) = cond (eqb n 4) Lacking NoNumber
@@ -86,10 +79,10 @@ one-read = one-of numberRead read-back undone
 
 written-back : Answer ℕ → NumberWritten
 written-back (accepted n) = Bytes n
-written-back (refused n v) = cond (eqb n 13) (NoRoom (lengthIn v)) Outside
+written-back (refused n v) = cond (eqb n 13) (NoRoom (lengthOr 0 v)) Outside
 
 one-written : (x y : NumberWritten) → numberWritten x ≡ numberWritten y → x ≡ y
-unfolding written-back lengthIn
+unfolding written-back
 one-written = one-of numberWritten written-back undone
   where
     undone : (x : NumberWritten) → written-back (numberWritten x) ≡ x
@@ -99,10 +92,10 @@ one-written = one-of numberWritten written-back undone
 
 integer-back : Answer ℕ → IntegerWritten
 integer-back (accepted n) = Stored n
-integer-back (refused n v) = Full (lengthIn v)
+integer-back (refused n v) = Full (lengthOr 0 v)
 
 one-integer : (x y : IntegerWritten) → integerWritten x ≡ integerWritten y → x ≡ y
-unfolding integer-back lengthIn
+unfolding integer-back
 one-integer = one-of integerWritten integer-back undone
   where
     undone : (x : IntegerWritten) → integer-back (integerWritten x) ≡ x

@@ -27,6 +27,19 @@ abbrev pub mapped : {A B : Type 0} → (A → B) → Answer A → Answer B
 mapped f (accepted x) = accepted (f x)
 mapped f (refused n v) = refused n v
 
+-- the length that comes with a refusal, and the tokens, or what was there before
+abbrev pub lengthOr : ℕ → Values → ℕ
+lengthOr old alone = old
+lengthOr old (atToken t) = old
+lengthOr old (needing n) = n
+lengthOr old (needingAt n t) = n
+
+abbrev pub tokensOr : ℕ → Values → ℕ
+tokensOr old alone = old
+tokensOr old (atToken t) = t
+tokensOr old (needing n) = old
+tokensOr old (needingAt n t) = t
+
 -- ---- bytes that are lent
 
 -- An answer, and what is left in the bytes that were lent.

@@ -1,23 +1,28 @@
-use Rattle.charstring.specs.VerdictLaws.{told}
-use Rattle.reading.specs.AnswerLaws.{gate-open}
-use Rattle.reading.specs.Answers.{Outcome, listGate, flattening}
-use Rattle.index.proofs.list.Formed as formed-type
-use Rattle.index.specs.declared.list.Formed.the-variants.{Yes, Lacking, BadSize, Emptied, Bad}
-use Rattle.index.specs.declared.list.Formed.{Formed}
-use Rattle.index.specs.Formed.{Formation, formed}
-use Rattle.number.specs.Answer.{refused, alone}
-use denote.Enum.Declared.{tagOf}
-use types.Run.{OneOf, miss}
-use Prim.Native.Nat.{ℕ}
-use mathlib.Core.List.{List, [], _∷_}
 use mathlib.Core.Path.{_≡_, sym, ap, _∙_}
+use mathlib.Core.List.{List, [], _∷_}
+use Prim.Native.Nat.{ℕ}
+use types.Run.{OneOf, miss}
+use denote.Enum.Declared.{tagOf}
+use Rattle.number.specs.Answer.{Answer, refused, alone, Outcome, leaving}
+use Rattle.index.specs.Formed.{Formation, formed, formation}
+use Rattle.index.specs.declared.list.Formed.{Formed}
+use Rattle.index.specs.declared.list.Formed.the-variants.{Yes, Lacking, BadSize, Emptied, Bad}
+use Rattle.index.proofs.list.Formed as formed-type
+use Rattle.reading.specs.Rules.{Rules}
+use Rattle.reading.specs.Answers.{Flattening, listGate, flattening}
+use Rattle.reading.specs.AnswerLaws.{gate-open}
 use borrow.Author.Needs.{needs}
 use Rattle.charstring.proofs.flattening.flatten.Statement.{statement}
 use Rattle.charstring.proofs.flattening.flatten.Tie as tie
+use Rattle.charstring.proofs.flattening.flatten.Reads as reads
+use Rattle.charstring.proofs.flattening.flatten.Lts as lts
+use Rattle.charstring.proofs.flattening.write.Reads as write-reads
+use Rattle.index.proofs.well_formed.Reads as well-formed-reads
+use Rattle.reading.proofs.rules_of.Reads as rules-of-reads
 
 -- a list that is not well formed, by each of its reasons
-shut : (k : ℕ) (out : List ℕ) (f : Formation) (then : Outcome) (r : Formed) → OneOf (1 ∷ 2 ∷ 3 ∷ 4 ∷ []) (tagOf formed-type.the-type r) → formed r ≡ f
-    → told (refused k alone) out ≡ listGate k out f then
+shut : (k : ℕ) (out : List ℕ) (f : Formation) (then : Outcome (Answer Flattening)) (r : Formed)
+    → OneOf (1 ∷ 2 ∷ 3 ∷ 4 ∷ []) (tagOf formed-type.the-type r) → formed r ≡ f → leaving (refused k alone) out ≡ listGate k out f then
 unfolding listGate
 shut k out f then (Yes n) h e = absurd (miss (1 ∷ 2 ∷ 3 ∷ 4 ∷ []) 0 tt h)
 shut k out f then Lacking h e = ap (λ (g : Formation). listGate k out g then) e
@@ -25,56 +30,68 @@ shut k out f then BadSize h e = ap (λ (g : Formation). listGate k out g then) e
 shut k out f then Emptied h e = ap (λ (g : Formation). listGate k out g then) e
 shut k out f then (Bad i) h e = ap (λ (g : Formation). listGate k out g then) e
 
-opened : (k : ℕ) (out : List ℕ) (f : Formation) (then : Outcome) (r : Formed) → OneOf (0 ∷ []) (tagOf formed-type.the-type r) → formed r ≡ f → then ≡ listGate k out f then
+opened : (k : ℕ) (out : List ℕ) (f : Formation) (then : Outcome (Answer Flattening)) (r : Formed)
+    → OneOf (0 ∷ []) (tagOf formed-type.the-type r) → formed r ≡ f → then ≡ listGate k out f then
 opened k out f then (Yes n) h e = sym (gate-open k out f n (sym e) then)
 opened k out f then Lacking h e = absurd (miss (0 ∷ []) 1 tt h)
 opened k out f then BadSize h e = absurd (miss (0 ∷ []) 2 tt h)
 opened k out f then Emptied h e = absurd (miss (0 ∷ []) 3 tt h)
 opened k out f then (Bad i) h e = absurd (miss (0 ∷ []) 4 tt h)
 
+-- at the width that the rules have
+formed-by : (list : List ℕ) (x y : Rules) (r : Formed) → x ≡ y → formed r ≡ formation (x .width) list → formed r ≡ formation (y .width) list
+formed-by list x y r e q = q ∙ ap (λ (z : Rules). formation (z .width) list) e
+
+-- src/flattening.rt:40:9
+rules-of-requires : tie.Need-rules-of-requires
+rules-of-requires c κs = search needs
+
+-- src/flattening.rt:42:26
 well-formed-requires : tie.Need-well-formed-requires
 well-formed-requires c κs = search needs
 
 enum-told : tie.Need-enum-told
 enum-told c = search needs
 
+-- src/flattening.rt:43:9
 returns : tie.Need-returns
 unfolding flattening
-returns c = shut 1 _ _ _ (c .before .well-formed .result) (c .match .keys2) (c .before .well-formed .ensures)
+returns c = shut 1 _ _ _ (c .before .well-formed .result) (c .match .keys2) (formed-by _ _ _ (c .before .well-formed .result) (c .before .before .rules-of .ensures) (c .before .well-formed .ensures))
 
+-- src/flattening.rt:45:26
 well-formed-requires-2 : tie.Need-well-formed-requires-2
 well-formed-requires-2 c κs = search needs
 
 enum-told-2 : tie.Need-enum-told-2
 enum-told-2 c = search needs
 
+-- src/flattening.rt:46:9
 returns-2 : tie.Need-returns-2
 unfolding flattening
 returns-2 c =
-    let well-formed = c .before .before .before .before .well-formed in
-    let well-formed2 = c .before .well-formed2 in
-    shut 2 _ _ _ (well-formed2 .result) (c .match2 .keys2) (well-formed2 .ensures) ∙ opened 1 _ _ _ (well-formed .result)
-    (c .before .before .before .match .keys1) (well-formed .ensures)
+    shut 2 _ _ _ (c .before .well-formed2 .result) (c .match2 .keys2) (formed-by _ _ _ (c .before .well-formed2 .result) (c .before .before .before .before .before .rules-of .ensures) (c .before .well-formed2 .ensures))
+    ∙ opened 1 _ _ _ (c .before .before .before .before .well-formed .result) (c .before .before .before .match .keys1) (formed-by _ _ _ (c .before .before .before .before .well-formed .result) (c .before .before .before .before .before .rules-of .ensures) (c .before .before .before .before .well-formed .ensures))
 
+-- src/flattening.rt:48:5
 write-requires : tie.Need-write-requires
 write-requires c κs = search needs
 
+-- src/flattening.rt:30:1
 same-length : tie.Need-same-length
 same-length c = search needs
 
+-- src/flattening.rt:30:1
 returns-3 : tie.Need-returns-3
 unfolding flattening
 returns-3 c =
-    let well-formed = c .before .before .before .before .before .before .before .before .before .well-formed in
-    let well-formed2 = c .before .before .before .before .before .before .well-formed2 in
-    c .before .before .write .ensures ∙ opened 2 _ _ _ (well-formed2 .result) (c .before .before .before .before .before .match2 .keys1)
-    (well-formed2 .ensures) ∙ opened 1 _ _ _ (well-formed .result) (c .before .before .before .before .before .before .before .before .match .keys1)
-    (well-formed .ensures)
+    c .before .before .write .ensures ∙ opened 2 _ _ _ (c .before .before .before .before .before .before .well-formed2 .result) (c .before .before .before .before .before .match2 .keys1) (formed-by _ _ _ (c .before .before .before .before .before .before .well-formed2 .result) (c .before .before .before .before .before .before .before .before .before .before .rules-of .ensures) (c .before .before .before .before .before .before .well-formed2 .ensures))
+    ∙ opened 1 _ _ _ (c .before .before .before .before .before .before .before .before .before .well-formed .result) (c .before .before .before .before .before .before .before .before .match .keys1) (formed-by _ _ _ (c .before .before .before .before .before .before .before .before .before .well-formed .result) (c .before .before .before .before .before .before .before .before .before .before .rules-of .ensures) (c .before .before .before .before .before .before .before .before .before .well-formed .ensures))
 
 pub flatten-spec : {M : Type 1} → statement M
 flatten-spec =
     tie.close
     (tie.spec
+    rules-of-requires
     well-formed-requires
     enum-told
     returns

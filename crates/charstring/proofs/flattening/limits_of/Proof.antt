@@ -1,23 +1,21 @@
 use borrow.Author.Needs.{needs}
 use Rattle.charstring.proofs.flattening.limits_of.Statement.{statement}
 use Rattle.charstring.proofs.flattening.limits_of.Tie as tie
+use Rattle.charstring.proofs.flattening.limits_of.Reads as reads
+use Rattle.charstring.proofs.flattening.limits_of.Lts as lts
+use Rattle.charstring.proofs.flattening.count_of.Reads as count-of-reads
 
-hints-of-requires : tie.Need-hints-of-requires
-hints-of-requires c κs = search needs
-
-exact-of-requires : tie.Need-exact-of-requires
-exact-of-requires c κs = search needs
-
+-- src/flattening.rt:133:18
 count-of-requires : tie.Need-count-of-requires
 count-of-requires c κs = search needs
 
+-- src/flattening.rt:134:17
 count-of-requires-2 : tie.Need-count-of-requires-2
 count-of-requires-2 c κs = search needs
 
+-- src/flattening.rt:126:1
 returns : tie.Need-returns
-returns c = rw (c .before .before .before .hints-of .ensures, c .before .before .exact-of .ensures, c .before .count-of .ensures, c .count-of2 .ensures)
+returns c = rw (c .before .count-of .ensures, c .count-of2 .ensures)
 
 pub limits-of-spec : {M : Type 1} → statement M
-limits-of-spec =
-    tie.close
-    (tie.spec hints-of-requires exact-of-requires count-of-requires count-of-requires-2 returns)
+limits-of-spec = tie.close (tie.spec count-of-requires count-of-requires-2 returns)

@@ -1,73 +1,92 @@
-use Rattle.charstring.specs.VerdictLaws.{by-stop, by-short, by-held, by-part}
-use Rattle.charstring.specs.Verdicts.{measured}
-use mathlib.Core.Path.{sym, ap, _∙_}
+use mathlib.Core.Path.{_≡_, sym, ap, _∙_}
+use mathlib.Core.List.{List, [], _∷_}
+use Prim.Native.Nat.{ℕ}
 use native.Mathlib.Omega.{arith}
 use lib.Seq.{length-take-le}
+use types.Run.{OneOf, miss}
+use denote.Enum.Declared.{tagOf}
+use Rattle.number.specs.Answer.{leaving}
+use Rattle.reading.specs.Reading.{Run}
+use Rattle.reading.specs.Answers.{flattened, verdict, outcome}
+use Rattle.reading.specs.declared.Flattened.{Flattened}
+use Rattle.reading.specs.declared.Flattened.the-variants.{Accepted, BadGlobals, BadLocals, Refused, NoRoom}
+use Rattle.reading.proofs.Flattened as flattened-type
+use Rattle.charstring.specs.VerdictLaws.{by-refusal, by-short, by-held, by-part}
 use borrow.Author.Needs.{needs}
 use Rattle.charstring.proofs.flattening.write.Statement.{statement}
 use Rattle.charstring.proofs.flattening.write.Tie as tie
+use Rattle.charstring.proofs.flattening.write.Reads as reads
+use Rattle.charstring.proofs.flattening.write.Lts as lts
+use Rattle.charstring.proofs.flattening.draft.Reads as draft-reads
+use Rattle.charstring.proofs.flattening.keep.Reads as keep-reads
 
+abbrev Refusals : List ℕ
+Refusals = 1 ∷ 2 ∷ 3 ∷ 4 ∷ []
+
+-- a run that was refused changes nothing
+refused-so : (out : List ℕ) (x : Run) (r : Flattened) → OneOf Refusals (tagOf flattened-type.the-type r) → flattened r ≡ verdict x
+    → leaving (flattened r) out ≡ outcome out x
+refused-so out x (Accepted n t) k e = absurd (miss Refusals 0 tt k)
+refused-so out x BadGlobals k e = by-refusal out x _ _ e
+refused-so out x BadLocals k e = by-refusal out x _ _ e
+refused-so out x (Refused w t) k e = by-refusal out x _ _ e
+refused-so out x (NoRoom n t) k e = by-refusal out x _ _ e
+
+-- src/flattening.rt:64:63
 slice-aggregate-draft : tie.Need-slice-aggregate-draft
 slice-aggregate-draft c = search needs
 
+-- src/flattening.rt:64:9
 draft-requires : tie.Need-draft-requires
 draft-requires c κs = search needs
 
-enum-known-k : tie.Need-enum-known-k
-enum-known-k c = search needs
+-- src/flattening.rt:65:29
+enum-known-verdict : tie.Need-enum-known-verdict
+enum-known-verdict c = search needs
 
-enum-known-n : tie.Need-enum-known-n
-enum-known-n c = search needs
-
+-- src/flattening.rt:66:9
 returns : tie.Need-returns
-returns c =
-    let at-n = c .before .before in
-    let at-draft = at-n .before .before .before in
-    by-short _ _ _ _ (ap measured (sym (at-n .n .given .1)) ∙ at-draft .draft .ensures .0) (c .if1 .taken)
+returns c = refused-so _ _ (c .before .before .draft .result) (c .match .keys2) (c .before .before .draft .ensures .0)
 
+-- src/flattening.rt:69:9
+returns-2 : tie.Need-returns-2
+returns-2 c = by-short _ _ _ _ (ap flattened (sym (c .before .before .verdict .given .1)) ∙ c .before .before .before .before .before .draft .ensures .0) (c .if1 .taken)
+
+-- src/flattening.rt:72:22
 slice-aggregate-keep : tie.Need-slice-aggregate-keep
 slice-aggregate-keep c = search needs
 
+-- src/flattening.rt:72:9
 keep-requires : tie.Need-keep-requires
 keep-requires c κs = search needs
 
+-- src/flattening.rt:74:53
 slice-relend-prefix-draft : tie.Need-slice-relend-prefix-draft
 slice-relend-prefix-draft c = search needs
 
+-- src/flattening.rt:74:53
 slice-aggregate-draft-2 : tie.Need-slice-aggregate-draft-2
 slice-aggregate-draft-2 c = sym (length-take-le _ _ (c .before .before .if1 .left))
 
+-- src/flattening.rt:74:9
 draft-requires-2 : tie.Need-draft-requires-2
 draft-requires-2 c κs = search needs
 
-returns-2 : tie.Need-returns-2
-returns-2 c = by-stop _ _ _ _ (ap measured (sym (c .before .k .given .1)) ∙ c .before .before .before .before .draft .ensures .0)
-
+-- src/flattening.rt:53:1
 same-length : tie.Need-same-length
 same-length c = search needs
 
+-- src/flattening.rt:53:1
 returns-3 : tie.Need-returns-3
-returns-3 c =
-    let at-keep = c .before .before in
-    let at-if1 = at-keep .before .before .before .before in
-    let at-n = at-if1 .before .before in
-    let at-draft = at-n .before .before .before in
-    let draft = at-draft .draft in
-    by-held _ _ _ _ (ap measured (sym (at-n .n .given .1)) ∙ draft .ensures .0)
-    (at-if1 .if1 .left) _ (draft .ensures .1) (omega arith) _ (at-keep .keep .ensures)
+returns-3 c = by-held _ _ _ _ (ap flattened (sym (c .before .before .before .before .before .before .before .before .verdict .given .1)) ∙ c .before .before .before .before .before .before .before .before .before .before .before .draft .ensures .0) (c .before .before .before .before .before .before .if1 .left) _ (c .before .before .before .before .before .before .before .before .before .before .before .draft .ensures .1) (omega arith) _ (c .before .before .keep .ensures)
 
+-- src/flattening.rt:53:1
 same-length-2 : tie.Need-same-length-2
 same-length-2 c = search needs
 
+-- src/flattening.rt:53:1
 returns-4 : tie.Need-returns-4
-returns-4 c =
-    let at-draft2 = c .before .before in
-    let at-if1 = at-draft2 .before .before .before in
-    let at-n = at-if1 .before .before in
-    let at-draft = at-n .before .before .before in
-    by-part _ _ _ _ (ap measured (sym (at-n .n .given .1)) ∙
-    at-draft .draft .ensures .0)
-    (at-if1 .if1 .left) _ (at-draft2 .draft2 .ensures .1) (at-draft2 .draft2 .kept .1 .1 .1 .1 .1 .0)
+returns-4 c = by-part _ _ _ _ (ap flattened (sym (c .before .before .before .before .before .before .before .verdict .given .1)) ∙ c .before .before .before .before .before .before .before .before .before .before .draft .ensures .0) (c .before .before .before .before .before .if1 .left) _ (c .before .before .draft2 .ensures .1) (c .before .before .draft2 .kept .1 .1 .1 .1 .1 .0)
 
 pub write-spec : {M : Type 1} → statement M
 write-spec =
@@ -75,15 +94,14 @@ write-spec =
     (tie.spec
     slice-aggregate-draft
     draft-requires
-    enum-known-k
-    enum-known-n
+    enum-known-verdict
     returns
+    returns-2
     slice-aggregate-keep
     keep-requires
     slice-relend-prefix-draft
     slice-aggregate-draft-2
     draft-requires-2
-    returns-2
     same-length
     returns-3
     same-length-2

@@ -1,0 +1,194 @@
+-- What `draft`, `write` and `flatten` answer, from what `run` ensures. Assumes nothing.
+use mathlib.Core.Path.{_≡_, refl, sym, ap, subst, _∙_}
+use mathlib.Core.List.{List, _++_}
+use Prim.Native.Nat.{ℕ, _≤_, _<_, zero-le}
+use native.Mathlib.Nat.{lt-of-le-of-lt}
+use native.Mathlib.Omega.{arith}
+use lib.Dec.{lit≤}
+use lib.ListN.{length, take, drop}
+use lib.Seq.{length-take-le, take-all}
+use Rattle.number.specs.Answer.{Values, Answer, accepted, refused, atToken, needingAt, mapped, leaving, Ready, into}
+use Rattle.number.specs.AnswerLaws.{refused-accepted, accepted-same, into-fits, into-short}
+use Rattle.reading.specs.Rules.{Rules, rulesOf, meant}
+use Rattle.reading.specs.Items.{leftBy}
+use Rattle.reading.specs.Reading.{struck, start, Ending as How, back, ended, stopped, Run, tokensBy, tokens, reading, original}
+use Rattle.reading.specs.ValidLaws.{none}
+use Rattle.reading.specs.Flat.{flat}
+use Rattle.reading.specs.Answers.{Flattening, flatOf, flatReady, readyBy, verdict, outcome, numberOf}
+use Rattle.reading.specs.declared.Rules.{Rules as CodeRules}
+use Rattle.reading.specs.declared.Profile.{Profile}
+use Rattle.reading.specs.declared.Profile.the-variants.{Plain, Strict}
+use Rattle.reading.specs.declared.Refusal.{Refusal}
+use Rattle.charstring.specs.Words.{stackOf}
+use Rattle.charstring.specs.WordsLaws.{begins-none, begins-take}
+use Rattle.charstring.specs.States.{begun}
+use Rattle.charstring.specs.Run.{Begins, tailOf, Repr, howOf, Done, countOf, Setting, Sound, RunsTo}
+use Rattle.charstring.specs.declared.state.State.{State}
+use Rattle.charstring.specs.declared.look.Limits.{Limits}
+use Rattle.charstring.specs.declared.stretch.Ending.the-variants.{Back, Ended, Refused}
+use Rattle.charstring.specs.declared.stretch.Ran.{Ran}
+
+-- ---- before the first token
+
+begun-is : (rules : Rules) (stack out : List ℕ) → Repr rules stack out begun start
+unfolding stackOf flat struck tailOf leftBy
+begun-is rules stack out =
+    record {
+      room = zero-le;
+      ops = refl;
+      hints-are = refl;
+      hinted = zero-le;
+      mask-is = refl;
+      tokens-are = refl;
+      tail-is = refl;
+      length-is = refl;
+      good = record { agree = refl; valid = none; taken = tt };
+      bytes = begins-none out;
+    }
+
+few-hints : (p : Profile) → rulesOf p .hints ≤ 65535
+few-hints Plain = lit≤ tt
+few-hints Strict = lit≤ tt
+
+few-operands : (p : Profile) → rulesOf p .operands ≤ 48
+few-operands Plain = lit≤ tt
+few-operands Strict = lit≤ tt
+
+abbrev pub limitsOf : CodeRules → ℕ → List ℕ → List ℕ → Limits
+limitsOf rules budget globals locals = record { rules = rules; budget = budget; globals = countOf rules globals; locals = countOf rules locals }
+
+module _ (p : Profile) (rules : CodeRules) (is : meant rules ≡ rulesOf p) (stack out : List ℕ) (full : length stack ≡ 48)
+    (globals locals : List ℕ) (budget : ℕ) (by : Limits) (s : State) (same : s ≡ begun) (limits : by ≡ limitsOf rules budget globals locals) where
+  setting : Setting globals locals (limitsOf rules budget globals locals) stack
+  setting =
+      record {
+        roomy =
+            record {
+              few-hints = subst (λ (n : ℕ). n ≤ 65535) (sym (ap (λ (r : Rules). r .hints) is)) (few-hints p);
+              few-words = omega arith;
+              operands-fit = let k = few-operands p in let e : rules .operands ≡ rulesOf p .operands = ap (λ (r : Rules). r .operands) is in omega arith;
+            };
+        global-count = refl;
+        local-count = refl;
+      }
+
+  sound : Sound (limitsOf rules budget globals locals) stack out s
+  unfolding Sound
+  sound = (start, subst (λ (y : State). Repr (meant rules) stack out y start) (sym same) (begun-is (meant rules) stack out))
+
+  -- what a run from the first token asks
+  pub ready : Setting globals locals by stack × Sound by stack out s
+  ready = subst (λ (l : Limits). Setting globals locals l stack × Sound l stack out s) (sym limits) (setting, sound)
+
+  -- the run of the code is the reading's
+  pub done : (cs : List ℕ) (r : Ran) (stack₁ out₁ : List ℕ) → RunsTo cs globals locals by s stack out (rules .levels) r stack₁ out₁
+      → Done (rulesOf p) stack₁ out₁ r (original (rulesOf p) cs globals locals budget)
+  unfolding RunsTo reading
+  done cs r stack₁ out₁ runs =
+      subst (λ (x : Rules). Done x stack₁ out₁ r (original x cs globals locals budget)) is
+      (subst (λ (l : Limits). RunsTo cs globals locals l s stack out (rules .levels) r stack₁ out₁) limits runs start
+      (subst (λ (y : State). Repr (meant rules) stack out y start) (sym same) (begun-is (meant rules) stack out)))
+
+-- ---- the verdict
+
+module _ (rules : Rules) (stack₁ out₁ : List ℕ) (r : Ran) (x : Run) (d : Done rules stack₁ out₁ r x) where
+  abbrev measured : Flattening
+  measured = record { size = r .st .length; tokens = r .st .tokens }
+
+  flat-by : (e : How) → x .how ≡ e → tokensBy (length (x .state .shown)) e ≡ length (x .state .shown) → readyBy x e ≡ accepted (flatReady x)
+      → accepted measured ≡ verdict x
+  unfolding verdict
+  flat-by e h t v =
+      let count : r .st .tokens ≡ tokens x = sym (d .tokens-are) ∙ sym t ∙ ap (tokensBy (length (x .state .shown))) (sym h) in
+      ap (λ (n : ℕ). accepted (record { size = n; tokens = r .st .tokens })) (sym (d .length-is))
+      ∙ ap (λ (n : ℕ). accepted (record { size = length (flatOf x); tokens = n })) count
+      ∙ ap (mapped (λ (y : Ready Flattening). y .told)) (sym v ∙ ap (readyBy x) (sym h))
+
+  pub came-back : r .how ≡ Back → accepted measured ≡ verdict x
+  unfolding readyBy tokensBy
+  came-back e = flat-by back (sym (d .how) ∙ ap howOf e) refl refl
+
+  pub all-ended : r .how ≡ Ended → accepted measured ≡ verdict x
+  unfolding readyBy tokensBy
+  all-ended e = flat-by ended (sym (d .how) ∙ ap howOf e) refl refl
+
+  module _ (k : Refusal) (e : r .how ≡ Refused k) where
+    stopped-is : x .how ≡ stopped (numberOf k)
+    stopped-is = sym (d .how) ∙ ap howOf e
+
+    tokens-is : tokens x ≡ tokensBy (r .st .tokens) (stopped (numberOf k))
+    tokens-is = ap (tokensBy (length (x .state .shown))) stopped-is ∙ ap (λ (n : ℕ). tokensBy n (stopped (numberOf k))) (d .tokens-are)
+
+    pub was-stopped : (t : ℕ) → t ≡ tokensBy (r .st .tokens) (stopped (numberOf k)) → refused (numberOf k) (atToken t) ≡ verdict x
+    unfolding verdict readyBy
+    was-stopped t q =
+        ap (λ (n : ℕ). refused (numberOf k) (atToken n)) (q ∙ sym tokens-is)
+        ∙ ap (λ (h : How). mapped (λ (y : Ready Flattening). y .told) (readyBy x h)) (sym stopped-is)
+
+    pub few-tokens : (budget : ℕ) → tokens x ≤ budget → budget < 4294967296 → tokensBy (r .st .tokens) (stopped (numberOf k)) < 4294967296
+    few-tokens budget l h = subst (λ (n : ℕ). n < 4294967296) tokens-is (lt-of-le-of-lt l h)
+
+-- ---- the outcome
+
+module _ (out : List ℕ) (x : Run) where
+  abbrev Answers : Answer Flattening → List ℕ → Type 0
+  Answers a l = leaving a l ≡ outcome out x
+
+  -- a run that was refused
+  pub by-refusal : (k : ℕ) (v : Values) → refused k v ≡ verdict x → Answers (refused k v) out
+  unfolding outcome verdict into
+  by-refusal k v e = go (readyBy x (x .how)) e
+    where
+      go : (y : Answer (Ready Flattening)) → refused k v ≡ mapped (λ (z : Ready Flattening). z .told) y → leaving (refused k v) out ≡ into out y
+      go (accepted r) q = refused-accepted q
+      go (refused n w) q = ap (λ (a : Answer Flattening). leaving a out) q
+
+  module _ (n t : ℕ) (e : accepted (record { size = n; tokens = t }) ≡ verdict x) where
+    record Is : Type 0 where
+      size : n ≡ length (flatOf x)
+      count : t ≡ tokens x
+      ready-is : readyBy x (x .how) ≡ accepted (flatReady x)
+
+    is : Is
+    unfolding verdict readyBy
+    is = go (x .how) refl e
+      where
+        flat-is : accepted (record { size = n; tokens = t }) ≡ accepted (flatReady x .told)
+            → readyBy x (x .how) ≡ accepted (flatReady x) → Is
+        flat-is v q =
+            let same = accepted-same v in
+            record { size = ap (λ (y : Flattening). y .size) same; count = ap (λ (y : Flattening). y .tokens) same; ready-is = q }
+
+        go : (h : How) → x .how ≡ h → accepted (record { size = n; tokens = t }) ≡ mapped (λ (z : Ready Flattening). z .told) (readyBy x h) → Is
+        go back q v = flat-is v (ap (readyBy x) q)
+        go ended q v = flat-is v (ap (readyBy x) q)
+        go (stopped m) q v = refused-accepted (sym v)
+
+    pub by-short : length out < n → Answers (refused 13 (needingAt n t)) out
+    unfolding outcome
+    by-short l =
+        let i = is in
+        ap (λ (m : ℕ). leaving (refused 13 (needingAt m t)) out) (i .size)
+        ∙ ap (λ (m : ℕ). leaving (refused 13 (needingAt (length (flatOf x)) m)) out) (i .count)
+        ∙ sym (into-short out (flatReady x) (let s = i .size in omega arith)) ∙ ap (into out) (sym (i .ready-is))
+
+    by-flat : n ≤ length out → (l : List ℕ) → l ≡ flatOf x ++ drop n out → Answers (accepted (record { size = n; tokens = t })) l
+    unfolding outcome
+    by-flat h l q =
+        let i = is in
+        ap (leaving (accepted (record { size = n; tokens = t }))) q
+        ∙ ap (λ (m : ℕ). leaving (accepted (record { size = m; tokens = t })) (flatOf x ++ drop m out)) (i .size)
+        ∙ ap (λ (m : ℕ). leaving (accepted (record { size = length (flatOf x); tokens = m })) (flatOf x ++ drop (length (flatOf x)) out)) (i .count)
+        ∙ sym (into-fits out (flatReady x) (let s = i .size in omega arith)) ∙ ap (into out) (sym (i .ready-is))
+
+    -- the flat string was held, and its n bytes are copied
+    pub by-held : n ≤ length out → (m : List ℕ) → Begins m (flatOf x) → n ≤ length m → (l : List ℕ) → l ≡ take n m ++ drop n out
+        → Answers (accepted (record { size = n; tokens = t })) l
+    by-held h m w r l q = by-flat h l (q ∙ ap (λ (f : List ℕ). f ++ drop n out) (begins-take n m (flatOf x) w (sym (is .size)) r))
+
+    -- it was written to the first n bytes of the room
+    pub by-part : n ≤ length out → (m : List ℕ) → Begins m (flatOf x) → length m ≡ length (take n out)
+        → Answers (accepted (record { size = n; tokens = t })) (m ++ drop n out)
+    by-part h m w e =
+        let z : length (take n out) ≡ n = length-take-le n out h in
+        by-held h m w (omega arith) _ (ap (λ (f : List ℕ). f ++ drop n out) (sym (take-all n m (omega arith))))
