@@ -101,6 +101,13 @@ chain =
     ∷ 0x01 ∷ 0x02 ∷ 0x04 ∷ 0x06 ∷ 0x08 ∷ 0x0A ∷ 0x0C ∷ 0x0E ∷ 0x10 ∷ 0x12 ∷ 0x14
     ∷ 0x0E ∷ 0x20 ∷ 0x0A ∷ 0x21 ∷ 0x0A ∷ 0x22 ∷ 0x0A ∷ 0x23 ∷ 0x0A ∷ 0x24 ∷ 0x0A ∷ 0x25 ∷ 0x0A ∷ 0x26 ∷ 0x0A ∷ 0x27 ∷ 0x0A ∷ 0x28 ∷ 0x0A ∷ []
 
+-- a list whose one entry has an offset of 0, and one that its last offset empties
+abbrev absentEntry : List ℕ
+absentEntry = 0x00 ∷ 0x01 ∷ 0x01 ∷ 0x00 ∷ 0x01 ∷ []
+
+abbrev emptiedList : List ℕ
+emptiedList = 0x00 ∷ 0x01 ∷ 0x01 ∷ 0x00 ∷ 0x00 ∷ []
+
 -- what those rows miss
 abbrev pub more : List Row
 more =
@@ -120,8 +127,13 @@ more =
     -- budget 6 is enough where running out is no token, and 5 is not
     ∷ within plain 6 32 (0x20 ∷ 0x0A ∷ []) none L (gives (0x8C ∷ 0x8D ∷ 0x15 ∷ []) 6)
     ∷ within plain 5 32 (0x20 ∷ 0x0A ∷ []) none L (refuses 3 (atToken 5))
-    -- a list that is not well formed: the global one first
+    -- a list that is not well formed: unread, the global one first; with an entry that is absent; emptied by a last offset of 0
     ∷ within plain 0 32 [] [] [] (refuses 1 alone)
+    ∷ within plain 0 32 [] none [] (refuses 2 alone)
+    ∷ within plain 0 32 [] absentEntry absentEntry (refuses 1 alone)
+    ∷ within plain 0 32 [] none absentEntry (refuses 2 alone)
+    ∷ within plain 0 32 [] emptiedList none (refuses 1 alone)
+    ∷ within plain 0 32 [] none emptiedList (refuses 2 alone)
     ∷ []
 
 -- plain, without a level below the charstring
@@ -164,7 +176,7 @@ unfolding expectedBy into readyBy outcome listGate flattening
     resume after tokensOf read reading spelled flat
 rows-hold = (
   (refl, (refl, (refl, (refl, (refl, (refl, (refl, (refl, (refl, (refl, (refl, (refl, (refl, (refl, (refl, tt))))))))))))))),
-  (refl, (refl, (refl, (refl, (refl, (refl, (refl, (refl, (refl, (refl, tt)))))))))),
+  (refl, (refl, (refl, (refl, (refl, (refl, (refl, (refl, (refl, (refl, (refl, (refl, (refl, (refl, (refl, tt))))))))))))))),
   (refl, (refl, (refl, (refl, (refl, (refl, (refl, (refl, tt)))))))),
 )
 
