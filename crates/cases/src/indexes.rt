@@ -100,8 +100,7 @@ fn entry_line(s: &[u8], number: u32, part: &[u8], room: &mut [u8]) -> Line {
 fn entry_read(answer: EntryRead, part: &[u8], has: usize) -> Line {
     let line = Line::of(answer.number());
     match answer {
-        EntryRead::Entry(place, length) => line
-            .value(place as u64)
+        EntryRead::Entry(place, length) => line.value(place as u64)
             .value(length as u64)
             .shows(has, part)
             .marks(has != length),

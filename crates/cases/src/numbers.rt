@@ -99,13 +99,12 @@ fn number_read(answer: NumberRead, kind: bool) -> Line {
     let NumberRead::Read(o, taken) = answer else {
         return line;
     };
-    if kind {
-        return line
-            .value(o.fixed as u64)
-            .signed_value(o.value)
-            .value(taken as u64);
-    }
-    line.signed_value(o.value).value(taken as u64)
+    let start = if kind {
+        line.value(o.fixed as u64)
+    } else {
+        line
+    };
+    start.signed_value(o.value).value(taken as u64)
 }
 
 fn number_written(answer: NumberWritten, room: &[u8]) -> Line {

@@ -53,10 +53,10 @@ module _ (rules : Rules) (s : List ℕ) (budget : ℕ) (room : List ℕ) where
 
       pub cut-whole : 12 + a + b + c ≡ length s → (o : Outcome (Answer Flattening))
           → o ≡ flattening rules
-              (take (12 + a - 12) (drop 12 s))
-              (take (12 + a + b - (12 + a)) (drop (12 + a) s))
-              (take (12 + a + b + c - (12 + a + b)) (drop (12 + a + b) s))
-              budget room
+          (take (12 + a - 12) (drop 12 s))
+          (take (12 + a + b - (12 + a)) (drop (12 + a) s))
+          (take (12 + a + b + c - (12 + a + b)) (drop (12 + a + b) s))
+          budget room
           → answeredBy o ≡ partOf rules s budget room
       cut-whole e o f =
           let x : 12 + a - 12 ≡ a = omega arith in
