@@ -32,13 +32,13 @@ module _ (rules : Rules) (s : List ℕ) (budget : ℕ) (room : List ℕ) where
     unfolding cut
     other e = rw (e)
 
-    -- the answer on the three parts
-    abbrev whole : Outcome (Answer Flattening)
-    whole = flattening rules (take a (drop 12 s)) (take b (drop (12 + a) s)) (take c (drop (12 + a + b) s)) budget room
+    -- the answer on three parts that are so long
+    abbrev parts : ℕ → ℕ → ℕ → Outcome (Answer Flattening)
+    parts x y z = flattening rules (take x (drop 12 s)) (take y (drop (12 + a) s)) (take z (drop (12 + a + b) s)) budget room
 
-    filled : 12 + a + b + c ≡ length s → answeredBy whole ≡ cut rules s budget room a b c
+    whole : 12 + a + b + c ≡ length s → answeredBy (parts a b c) ≡ cut rules s budget room a b c
     unfolding cut
-    filled e = rw (eq-eqb (12 + a + b + c) (length s) e)
+    whole e = rw (eq-eqb (12 + a + b + c) (length s) e)
 
     -- the three lengths are there
     module _ (p : Value a ≡ bigAt s 0 4) (q : Value b ≡ bigAt s 4 4) (r : Value c ≡ bigAt s 8 4) where
@@ -52,14 +52,10 @@ module _ (rules : Rules) (s : List ℕ) (budget : ℕ) (room : List ℕ) where
       says-other e = other e ∙ opened
 
       pub cut-whole : 12 + a + b + c ≡ length s → (o : Outcome (Answer Flattening))
-          → o ≡ flattening rules
-          (take (12 + a - 12) (drop 12 s))
-          (take (12 + a + b - (12 + a)) (drop (12 + a) s))
-          (take (12 + a + b + c - (12 + a + b)) (drop (12 + a + b) s))
-          budget room
+          → o ≡ parts (12 + a - 12) (12 + a + b - (12 + a)) (12 + a + b + c - (12 + a + b))
           → answeredBy o ≡ partOf rules s budget room
       cut-whole e o f =
           let x : 12 + a - 12 ≡ a = omega arith in
           let y : 12 + a + b - (12 + a) ≡ b = omega arith in
           let z : 12 + a + b + c - (12 + a + b) ≡ c = omega arith in
-          ap answeredBy (rw (x, y, z) at f) ∙ filled e ∙ opened
+          ap answeredBy (rw (x, y, z) at f) ∙ whole e ∙ opened
