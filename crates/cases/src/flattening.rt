@@ -10,7 +10,6 @@ use crate::line::Line;
 use crate::room::fill;
 use reading::Flattened;
 use reading::Profile;
-use reading::number_of;
 
 // 8: profile, budget, room, charstring, globals, locals.
 pub(crate) fn flatten(args: &[u8], room: &mut [u8]) -> Line {
@@ -47,19 +46,14 @@ fn profile(strict: bool) -> Profile {
 
 // `0 N TOKENS HEX`.
 fn flattened(answer: Flattened, room: &[u8]) -> Line {
+    let line = Line::of(answer.number());
     match answer {
-        Flattened::Accepted(n, tokens) => Line::of(0)
-            .value(n as u64)
-            .value(tokens as u64)
-            .shows(n, room),
-        Flattened::BadGlobals => Line::of(1).keeps(room),
-        Flattened::BadLocals => Line::of(2).keeps(room),
-        Flattened::Refused(refusal, tokens) => Line::of(number_of(refusal) as u64)
-            .value(tokens as u64)
-            .keeps(room),
-        Flattened::NoRoom(n, tokens) => Line::of(13)
-            .value(n as u64)
-            .value(tokens as u64)
-            .keeps(room),
+        Flattened::Accepted(n, tokens) => {
+            line.value(n as u64).value(tokens as u64).shows(n, room)
+        }
+        Flattened::BadGlobals => line.keeps(room),
+        Flattened::BadLocals => line.keeps(room),
+        Flattened::Refused(_, tokens) => line.value(tokens as u64).keeps(room),
+        Flattened::NoRoom(n, tokens) => line.value(n as u64).value(tokens as u64).keeps(room),
     }
 }

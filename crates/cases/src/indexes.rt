@@ -9,6 +9,7 @@ use crate::room::fill;
 use index::EntryRead;
 use index::Formed;
 use index::IndexRead;
+use index::Width;
 use index_writing::IndexWritten;
 
 // 5: bytes.
@@ -16,7 +17,7 @@ pub(crate) fn read_index(args: &[u8]) -> Line {
     if !shaped(args, 0, 1) {
         return Line::unasked();
     }
-    index_read(index::read_index(bytes_at(args, 0)))
+    index_read(index::read_index(bytes_at(args, 0), Width::Two))
 }
 
 // 6: number, bytes.
@@ -26,7 +27,7 @@ pub(crate) fn read_entry(args: &[u8], room: &mut [u8]) -> Line {
     }
     let number = word_at(args, 0);
     let s = bytes_at(args, 4);
-    entry_line(s, number, index::entry_part(s, number), room)
+    entry_line(s, number, index::entry_part(s, Width::Two, number), room)
 }
 
 // 7: n, n lengths, bytes, room.
@@ -60,7 +61,7 @@ pub(crate) fn well_formed(args: &[u8]) -> Line {
     if !shaped(args, 0, 1) {
         return Line::unasked();
     }
-    formed(index::well_formed(bytes_at(args, 0)))
+    formed(index::well_formed(bytes_at(args, 0), Width::Two))
 }
 
 // 12: number, bytes.
@@ -75,10 +76,11 @@ pub(crate) fn read_entry_by_view(args: &[u8], room: &mut [u8]) -> Line {
 
 // `0 COUNT TAKEN`.
 fn index_read(answer: IndexRead) -> Line {
+    let line = Line::of(answer.number());
     match answer {
-        IndexRead::Read(count, taken) => Line::of(0).value(count as u64).value(taken as u64),
-        IndexRead::Lacking => Line::of(20),
-        IndexRead::BadSize => Line::of(21),
+        IndexRead::Read(count, taken) => line.value(count as u64).value(taken as u64),
+        IndexRead::Lacking => line,
+        IndexRead::BadSize => line,
     }
 }
 
@@ -87,7 +89,7 @@ fn index_read(answer: IndexRead) -> Line {
 fn entry_line(s: &[u8], number: u32, part: &[u8], room: &mut [u8]) -> Line {
     copy(part, room);
     entry_read(
-        index::read_entry(s, number),
+        index::read_entry(s, Width::Two, number),
         first(part.len(), room),
         part.len(),
     )
@@ -96,36 +98,38 @@ fn entry_line(s: &[u8], number: u32, part: &[u8], room: &mut [u8]) -> Line {
 // `0 PLACE LENGTH HEX`, where HEX is the entry's part, of which a copy and the length are given. The
 // line is marked where that length is not the one that the answer says, which is 0 in a refusal.
 fn entry_read(answer: EntryRead, part: &[u8], has: usize) -> Line {
+    let line = Line::of(answer.number());
     match answer {
-        EntryRead::Entry(place, length) => Line::of(0)
-            .value(place as u64)
+        EntryRead::Entry(place, length) => line.value(place as u64)
             .value(length as u64)
             .shows(has, part)
             .marks(has != length),
-        EntryRead::Lacking => Line::of(20).marks(has != 0),
-        EntryRead::BadSize => Line::of(21).marks(has != 0),
-        EntryRead::Absent => Line::of(25).marks(has != 0),
+        EntryRead::Lacking => line.marks(has != 0),
+        EntryRead::BadSize => line.marks(has != 0),
+        EntryRead::Absent => line.marks(has != 0),
     }
 }
 
 fn index_written(answer: IndexWritten, room: &[u8]) -> Line {
+    let line = Line::of(answer.number());
     match answer {
-        IndexWritten::Bytes(n) => Line::of(0).value(n as u64).shows(n, room),
-        IndexWritten::NoRoom(n) => Line::of(13).value(n as u64).keeps(room),
-        IndexWritten::TooMany => Line::of(22).keeps(room),
-        IndexWritten::TooLong => Line::of(23).keeps(room),
-        IndexWritten::Mismatch => Line::of(24).keeps(room),
+        IndexWritten::Bytes(n) => line.value(n as u64).shows(n, room),
+        IndexWritten::NoRoom(n) => line.value(n as u64).keeps(room),
+        IndexWritten::TooMany => line.keeps(room),
+        IndexWritten::TooLong => line.keeps(room),
+        IndexWritten::Mismatch => line.keeps(room),
     }
 }
 
-// `0 COUNT`, or 25 and the first bad entry's number: 0 where a last offset of 0 emptied the list.
+// `0 COUNT`; or the number of an absent entry and which is the first: 0 where a last offset of 0
+// emptied the list.
 fn formed(answer: Formed) -> Line {
     match answer {
         Formed::Yes(count) => Line::of(0).value(count as u64),
-        Formed::Lacking => Line::of(20),
-        Formed::BadSize => Line::of(21),
-        Formed::Emptied => Line::of(25).value(0),
-        Formed::Bad(i) => Line::of(25).value(i as u64),
+        Formed::Lacking => Line::of(IndexRead::Lacking.number()),
+        Formed::BadSize => Line::of(IndexRead::BadSize.number()),
+        Formed::Emptied => Line::of(EntryRead::Absent.number()).value(0),
+        Formed::Bad(i) => Line::of(EntryRead::Absent.number()).value(i as u64),
     }
 }
 

@@ -20,9 +20,9 @@ impl Line {
         Line::empty().put(b'?')
     }
 
-    // The line that starts with a number of document 01: 0, or a refusal's.
-    pub(crate) fn of(number: u64) -> Self {
-        Line::empty().decimal(number)
+    // The line that starts with the number of an answer.
+    pub(crate) fn of(number: u32) -> Self {
+        Line::empty().decimal(number as u64)
     }
 
     pub(crate) fn value(self, n: u64) -> Self {

@@ -95,47 +95,48 @@ pub(crate) fn callee(args: &[u8]) -> Line {
 
 // `0 K V W`; without K where the kind is not asked for.
 fn number_read(answer: NumberRead, kind: bool) -> Line {
-    match answer {
-        NumberRead::Read(o, taken) => {
-            if kind {
-                return Line::of(0)
-                    .value(o.fixed as u64)
-                    .signed_value(o.value)
-                    .value(taken as u64);
-            }
-            Line::of(0).signed_value(o.value).value(taken as u64)
-        }
-        NumberRead::Lacking => Line::of(4),
-        NumberRead::NoNumber => Line::of(6),
-    }
+    let line = Line::of(answer.number());
+    let NumberRead::Read(o, taken) = answer else {
+        return line;
+    };
+    let start = if kind {
+        line.value(o.fixed as u64)
+    } else {
+        line
+    };
+    start.signed_value(o.value).value(taken as u64)
 }
 
 fn number_written(answer: NumberWritten, room: &[u8]) -> Line {
+    let line = Line::of(answer.number());
     match answer {
-        NumberWritten::Bytes(n) => Line::of(0).value(n as u64).shows(n, room),
-        NumberWritten::NoRoom(n) => Line::of(13).value(n as u64).keeps(room),
-        NumberWritten::Outside => Line::of(17).keeps(room),
+        NumberWritten::Bytes(n) => line.value(n as u64).shows(n, room),
+        NumberWritten::NoRoom(n) => line.value(n as u64).keeps(room),
+        NumberWritten::Outside => line.keeps(room),
     }
 }
 
 fn integer_written(answer: IntegerWritten, room: &[u8]) -> Line {
+    let line = Line::of(answer.number());
     match answer {
-        IntegerWritten::Bytes(n) => Line::of(0).value(n as u64).shows(n, room),
-        IntegerWritten::NoRoom(n) => Line::of(13).value(n as u64).keeps(room),
+        IntegerWritten::Bytes(n) => line.value(n as u64).shows(n, room),
+        IntegerWritten::NoRoom(n) => line.value(n as u64).keeps(room),
     }
 }
 
 fn whole(answer: Whole) -> Line {
+    let line = Line::of(answer.number());
     match answer {
-        Whole::Is(z) => Line::of(0).signed_value(z),
-        Whole::Not => Line::of(7),
+        Whole::Is(z) => line.signed_value(z),
+        Whole::Not => line,
     }
 }
 
 fn entered(answer: Callee) -> Line {
+    let line = Line::of(answer.number());
     match answer {
-        Callee::Entry(n) => Line::of(0).value(n as u64),
-        Callee::NotWhole => Line::of(7),
-        Callee::Outside => Line::of(9),
+        Callee::Entry(n) => line.value(n as u64),
+        Callee::NotWhole => line,
+        Callee::Outside => line,
     }
 }

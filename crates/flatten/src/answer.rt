@@ -5,7 +5,6 @@ use libc::STDERR_FILENO;
 use libc::STDOUT_FILENO;
 use reading::Flattened;
 use reading::Refusal;
-use reading::number_of;
 
 // Tells a reply, over the room that it was lent; `size` is how many bytes came in.
 pub(crate) fn tell(reply: Reply, size: usize, room: &[u8]) {
@@ -49,22 +48,22 @@ pub(crate) fn tell_long() {
     );
 }
 
+// The line of an answer: it starts with the answer's number.
 fn tell_flattened(flattened: Flattened, room: &[u8]) {
+    count(flattened.number() as u64);
     match flattened {
         Flattened::Accepted(n, tokens) => tell_accepted(n, tokens, room),
-        Flattened::BadGlobals => say(b"1: the global list is not well formed\n"),
-        Flattened::BadLocals => say(b"2: the local list is not well formed\n"),
+        Flattened::BadGlobals => say(b": the global list is not well formed\n"),
+        Flattened::BadLocals => say(b": the local list is not well formed\n"),
         Flattened::Refused(refusal, tokens) => tell_refusal(refusal, tokens),
         Flattened::NoRoom(n, tokens) => tell_short(n, tokens),
     }
 }
 
-// `0 LENGTH TOKENS`, and the flat string on the next line.
+// The length and the tokens, and the flat string on the next line.
 fn tell_accepted(n: usize, tokens: u32, room: &[u8]) {
-    say(b"0 ");
-    count(n as u64);
-    say(b" ");
-    count(tokens as u64);
+    say_value(n as u64);
+    say_value(tokens as u64);
     say(b"\n");
     if n <= room.len() {
         write_hex(&room[0..n]);
@@ -73,20 +72,16 @@ fn tell_accepted(n: usize, tokens: u32, room: &[u8]) {
 }
 
 fn tell_short(n: usize, tokens: u32) {
-    say(b"13 ");
-    count(n as u64);
-    say(b" ");
-    count(tokens as u64);
+    say_value(n as u64);
+    say_value(tokens as u64);
     say(b": the flat string has ");
     count(n as u64);
     say(b" bytes, more than the room of 1048576\n");
 }
 
-// The line of a refusal: its number, its tokens, and a sentence with the tokens in it.
+// The tokens, and a sentence with them in it.
 fn tell_refusal(refusal: Refusal, tokens: u32) {
-    count(number_of(refusal) as u64);
-    say(b" ");
-    count(tokens as u64);
+    say_value(tokens as u64);
     say(b": ");
     match refusal {
         Refusal::BudgetSpent => explain(b"the budget is spent after token ", tokens, b""),
@@ -123,6 +118,12 @@ fn explain(before: &[u8], tokens: u32, after: &[u8]) {
 
 fn say(words: &[u8]) {
     io::write_all(STDOUT_FILENO, words);
+}
+
+// A space and a number.
+fn say_value(n: u64) {
+    say(b" ");
+    count(n);
 }
 
 fn count(n: u64) {

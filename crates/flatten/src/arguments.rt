@@ -147,6 +147,10 @@ pub(crate) fn tell_wrong(i: usize) {
     io::write_all(STDERR_FILENO, &word[..n]);
     io::write_all(
         STDERR_FILENO,
-        b"` is not understood. Expected: flatten [--strict] [--budget N] [FILE], where N is a number of tokens, at most 4294967295; without FILE the font part comes on standard input.\n",
+        b"` is not understood. Expected: flatten [--strict] [--budget N] [FILE], ",
+    );
+    io::write_all(
+        STDERR_FILENO,
+        b"where N is a number of tokens, at most 4294967295; without FILE the font part comes on standard input.\n",
     );
 }

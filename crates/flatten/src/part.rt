@@ -5,6 +5,7 @@ use number::Big;
 use reading::Flattened;
 use reading::Profile;
 ghost use mathlib.Core.Path.{_≡_};
+ghost use Rattle.number.specs.Answer.{leaving};
 ghost use Rattle.reading.specs.Rules.{rulesOf};
 ghost use Rattle.flatten.specs.Part.{partOf, toldBy};
 
@@ -18,7 +19,7 @@ pub(crate) enum Reply {
 
 // Flattens the charstring of a font part into the start of room.
 pub(crate) fn flatten_part(part: &[u8], profile: Profile, budget: u32, room: &mut [u8]) -> Reply
-    ensures { λ r. ⌜ record { told = toldBy r; left = now (room .exit) } ≡ partOf (rulesOf profile) (now (part .entry)) budget (now (room .entry)) ⌝ }
+    ensures { λ r. ⌜ leaving (toldBy r) (now (room .exit)) ≡ partOf (rulesOf profile) (now (part .entry)) budget (now (room .entry)) ⌝ }
 {
     let Big::Value(charstring) = number::read_be(part, 0, 4) else {
         return Reply::Headless;

@@ -1,4 +1,4 @@
--- `cases::input::pass_over` is safe and ends. The measure is how many bytes are left, of which each read takes at least one and no more than are left. Assumes nothing.
+-- `cases::input::pass_over` is safe and ends. The measure is how many bytes are left: each read takes at least one and no more than are left. Assumes nothing.
 use mathlib.Core.Path.{_≡_}
 use lib.ListN.{length}
 use borrow.Author.Needs.{needs}

@@ -1,6 +1,5 @@
 -- `flatten::arguments::read_arguments` is safe and ends. The measure is the number of arguments that are left. Assumes nothing.
 use Prim.Native.Nat.{_-_, _≤_}
-use native.Mathlib.Omega.{arith}
 use borrow.Author.Needs.{needs}
 use Rattle.flatten.proofs.arguments.read_arguments.Statement.{statement}
 use Rattle.flatten.proofs.arguments.read_arguments.Tie as tie

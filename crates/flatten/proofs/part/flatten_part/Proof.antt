@@ -62,7 +62,15 @@ add-end : tie.Need-add-end
 add-end c = search needs
 
 returns-4 : tie.Need-returns-4
-returns-4 c = says-other _ _ _ _ _ _ _ (sym (c .before .before .before .before .before .before .before .before .before .before .charstring .given .1) ∙ c .before .before .before .before .before .before .before .before .before .before .before .before .read-be .ensures) (sym (c .before .before .before .before .before .before .global .given .1) ∙ c .before .before .before .before .before .before .before .before .read-be2 .ensures) (sym (c .before .before .local .given .1) ∙ c .before .before .before .before .read-be3 .ensures) (ne-eqb _ _ (c .if1 .taken))
+returns-4 c =
+    let at-local = c .before .before in
+    let at-global = at-local .before .before .before .before in
+    let at-charstring = at-global .before .before .before .before in
+    says-other _ _ _ _ _ _ _
+    (sym (at-charstring .charstring .given .1) ∙ at-charstring .before .before .read-be .ensures)
+    (sym (at-global .global .given .1) ∙ at-global .before .before .read-be2 .ensures)
+    (sym (at-local .local .given .1) ∙ at-local .before .before .read-be3 .ensures)
+    (ne-eqb _ _ (c .if1 .taken))
 
 sub-flatten : tie.Need-sub-flatten
 sub-flatten c = search needs
@@ -98,7 +106,16 @@ same-length : tie.Need-same-length
 same-length c = search needs
 
 returns-5 : tie.Need-returns-5
-returns-5 c = cut-whole _ _ _ _ _ _ _ (sym (c .before .before .before .before .before .before .before .before .before .before .before .before .before .before .before .before .before .charstring .given .1) ∙ c .before .before .before .before .before .before .before .before .before .before .before .before .before .before .before .before .before .before .before .read-be .ensures) (sym (c .before .before .before .before .before .before .before .before .before .before .before .before .before .global .given .1) ∙ c .before .before .before .before .before .before .before .before .before .before .before .before .before .before .before .read-be2 .ensures) (sym (c .before .before .before .before .before .before .before .before .before .local .given .1) ∙ c .before .before .before .before .before .before .before .before .before .before .before .read-be3 .ensures) (omega arith) _ (c .before .before .flatten .ensures)
+returns-5 c =
+    let at-if = c .before .before .before .before .before .before .before in
+    let at-local = at-if .before .before in
+    let at-global = at-local .before .before .before .before in
+    let at-charstring = at-global .before .before .before .before in
+    cut-whole _ _ _ _ _ _ _
+    (sym (at-charstring .charstring .given .1) ∙ at-charstring .before .before .read-be .ensures)
+    (sym (at-global .global .given .1) ∙ at-global .before .before .read-be2 .ensures)
+    (sym (at-local .local .given .1) ∙ at-local .before .before .read-be3 .ensures)
+    (omega (arith, at-if .if1 .left)) _ (c .before .before .flatten .ensures)
 
 pub flatten-part-spec : {M : Type 1} → statement M
 flatten-part-spec =
