@@ -2,7 +2,6 @@
 // bytes. An operation first tests by `shaped` that the arguments fill the record. Every function
 // here answers wherever it is asked.
 use number::Big;
-use number::NumberRead;
 use number::Operand;
 
 // An argument of one byte that is 0 or 1: a kind or a profile.
@@ -71,15 +70,9 @@ pub(crate) fn word_at(s: &[u8], at: usize) -> u32 {
     }
 }
 
-// The same four bytes as a signed number. A Fixed is FF and the four bytes of its value, and they
-// are read so: no arithmetic on signed numbers is needed here.
+// The same four bytes as a signed number.
 pub(crate) fn signed_at(s: &[u8], at: usize) -> i32 {
-    let mut fixed = [255u8; 5];
-    number::write_be(&mut fixed, 1, 4, word_at(s, at));
-    let NumberRead::Read(o, _) = number::read_charstring_number(&fixed) else {
-        return 0;
-    };
-    o.value
+    number::value_of(word_at(s, at))
 }
 
 // The flag at a place.

@@ -29,11 +29,13 @@ impl Line {
         self.put(b' ').decimal(n)
     }
 
+    // From 2^31 on the 32 bits of a number are those of a negative one.
     pub(crate) fn signed_value(self, z: i32) -> Self {
-        if z < 0 {
-            return self.put(b' ').put(b'-').decimal(magnitude(z));
+        let bits = number::bits_of(z);
+        if bits < 2147483648 {
+            return self.value(bits as u64);
         }
-        self.value(magnitude(z))
+        self.put(b' ').put(b'-').decimal(4294967296 - bits as u64)
     }
 
     // The answer reports the first n bytes of the room that it was lent, and HEX shows them: no byte
@@ -93,14 +95,5 @@ impl Line {
             self.length = at + 1;
         }
         self
-    }
-}
-
-// The magnitude of z. One more than the least i32 can be negated.
-fn magnitude(z: i32) -> u64 {
-    if z < 0 {
-        (-(z + 1)) as u32 as u64 + 1
-    } else {
-        z as u32 as u64
     }
 }
