@@ -88,8 +88,10 @@ module _ (rules : Rules) (n j : ℕ) (p : Operator) (s : State) where
   mask-lacks x m e f h k =
       by-kind Mask 4 e
       (λ lists levels at rest t c l.
-      rw (le-leb (atMask (t .left) .hints) (rules .hints) (let q = f t c .0 in omega arith),
-      lt-leb (atMask (t .left) .mask) (length rest) (let q = f t c .1 in omega arith)))
+      rw (
+        le-leb (atMask (t .left) .hints) (rules .hints) (let q = f t c .0 in omega arith),
+        lt-leb (atMask (t .left) .mask) (length rest) (let q = f t c .1 in omega arith),
+      ))
 
   pub first-many : rules .kind p ≡ Mask → s .mask ≡ 0 → rules .hints < s .hints + s .count / 2 → Refused 11
   first-many e z h = mask-many _ _ e (mask-first z) h

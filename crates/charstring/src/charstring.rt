@@ -43,7 +43,14 @@ pub(crate) fn run<'a>(
                 let top = here.count - 1;
                 let o = unpack(stack[top]);
                 let list = choose(which, globals, locals);
-                let target = aim(list, choose_count(which, by), o, by.rules, levels, here.tail);
+                let target = aim(
+                    list,
+                    choose_count(which, by),
+                    o,
+                    by.rules,
+                    levels,
+                    here.tail,
+                );
                 match target {
                     Target::No(k) => {
                         return Ran {

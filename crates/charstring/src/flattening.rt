@@ -35,7 +35,8 @@ pub fn flatten<'a>(
     budget: u32,
     out: &mut [u8],
 ) -> Flattened
-    ensures { λ r. ⌜ record { answer = flattened r; left = now (out .exit) } ≡ flattening (rulesOf profile) (now (cs .entry)) (now (globals .entry)) (now (locals .entry)) budget (now (out .entry)) ⌝ }
+    ensures { λ r. ⌜ record { answer = flattened r; left = now (out .exit) }
+        ≡ flattening (rulesOf profile) (now (cs .entry)) (now (globals .entry)) (now (locals .entry)) budget (now (out .entry)) ⌝ }
 {
     let rules = rules_of(profile);
     let width = rules.width;
@@ -105,7 +106,16 @@ fn draft<'a>(
     let rules = rules_of(profile);
     let by = limits_of(rules, budget, globals, locals);
     let mut stack = [0u64; 48];
-    let r = run(cs, globals, locals, by, at_start(), &mut stack, held, rules.levels);
+    let r = run(
+        cs,
+        globals,
+        locals,
+        by,
+        at_start(),
+        &mut stack,
+        held,
+        rules.levels,
+    );
     let how = r.how;
     let st = r.st;
     match how {

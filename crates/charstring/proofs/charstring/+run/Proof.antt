@@ -199,12 +199,12 @@ run-sub-run t c = let b = at-call t (c .before .before .before .before .before .
 -- src/charstring.rt:57:29
 run-run-requires : (t : ℕ) → Of run-lts.Need-run-requires t
 run-run-requires t c κs = let b = at-call t (c .before .before .before .before .before .before .before .before .before .before .before .before .before .before .before) in let n = safe _ _ _ _ _ _ _ _ _ _ _ _ _ _ b in let e = aims t (c .before .before .before .before .before .before) in let x = index-there _ _ _ _ _ _ _ _ _ _ _ _ _ _ b _ _ e in let y = x .2 in let z = c .before .before .before .before .before .before .before .before .before .before .before .before .before .before .before .before .before .before .before .before .before .before .before .before .before .before .before .before .before .before .before .pre .0 in (
-      omega arith,
-      (
-        b .setting,
-        inside-sound _ _ _ _ _ _ _ _ _ _ _ _ _ _ b _ _ e _ _ (c .before .before .before .size-of .ensures ∙ ap (λ (o : Operand). length (spelling charstringRows o)) (c .before .before .before .before .before .before .before .before .before .before .before .unpack .ensures)) (c .before .before .enter .ensures),
-      ),
-    )
+  omega arith,
+  (
+    b .setting,
+    inside-sound _ _ _ _ _ _ _ _ _ _ _ _ _ _ b _ _ e _ _ (c .before .before .before .size-of .ensures ∙ ap (λ (o : Operand). length (spelling charstringRows o)) (c .before .before .before .before .before .before .before .before .before .before .before .unpack .ensures)) (c .before .before .enter .ensures),
+  ),
+)
 
 -- src/charstring.rt:61:33
 run-enum-told : (t : ℕ) → Of run-lts.Need-enum-told t
@@ -217,10 +217,10 @@ run-loop-less t c = let b = at-call t (c .before .before .before .before .before
 -- src/charstring.rt:34:5
 run-loop-again : (t : ℕ) → Of run-lts.Need-loop-again t
 run-loop-again t c = let b = at-call t (c .before .before .before .before .before .before .before .before .before .before .before .before .before .before .before .before .before .before .before .before .before .before .before) in (
-      c .before .before .before .before .before .before .before .run .kept .1 .1 .1 .1 .1 .0 ∙ c .before .before .before .before .before .before .before .before .before .before .before .before .before .before .before .before .before .before .before .before .before .before .before .before .before .before .before .before .before .before .stretch .kept .1 .1 .1 .1 .0 ∙ c .before .before .before .before .before .before .before .before .before .before .before .before .before .before .before .before .before .before .before .before .before .before .before .before .before .before .before .before .before .before .before .before .before .loop .inv .0,
-      c .before .before .before .before .before .before .before .run .kept .1 .1 .1 .1 .1 .1 .0 ∙ c .before .before .before .before .before .before .before .before .before .before .before .before .before .before .before .before .before .before .before .before .before .before .before .before .before .before .before .before .before .before .stretch .kept .1 .1 .1 .1 .1 .0 ∙ c .before .before .before .before .before .before .before .before .before .before .before .before .before .before .before .before .before .before .before .before .before .before .before .before .before .before .before .before .before .before .before .before .before .loop .inv .1,
-      arm-back _ _ _ _ _ _ _ _ _ _ _ _ _ _ b _ _ (aims t (c .before .before .before .before .before .before .before .before .before .before .before .before .before .before)) _ _ (c .before .before .before .before .before .before .before .before .before .before .before .size-of .ensures ∙ ap (λ (o : Operand). length (spelling charstringRows o)) (c .before .before .before .before .before .before .before .before .before .before .before .before .before .before .before .before .before .before .before .unpack .ensures)) (c .before .before .before .before .before .before .before .before .before .before .enter .ensures) _ (c .before .before .before .before .before .before .before .before .before .before .before .before .before .before .before .before .before .before .choose .ensures) (c .before .before .before .before .before .before .before .run .result) _ _ (c .before .before .before .before .before .before .before .run .ensures) (c .before .enum-told .given .1),
-    )
+  c .before .before .before .before .before .before .before .run .kept .1 .1 .1 .1 .1 .0 ∙ c .before .before .before .before .before .before .before .before .before .before .before .before .before .before .before .before .before .before .before .before .before .before .before .before .before .before .before .before .before .before .stretch .kept .1 .1 .1 .1 .0 ∙ c .before .before .before .before .before .before .before .before .before .before .before .before .before .before .before .before .before .before .before .before .before .before .before .before .before .before .before .before .before .before .before .before .before .loop .inv .0,
+  c .before .before .before .before .before .before .before .run .kept .1 .1 .1 .1 .1 .1 .0 ∙ c .before .before .before .before .before .before .before .before .before .before .before .before .before .before .before .before .before .before .before .before .before .before .before .before .before .before .before .before .before .before .stretch .kept .1 .1 .1 .1 .1 .0 ∙ c .before .before .before .before .before .before .before .before .before .before .before .before .before .before .before .before .before .before .before .before .before .before .before .before .before .before .before .before .before .before .before .before .before .loop .inv .1,
+  arm-back _ _ _ _ _ _ _ _ _ _ _ _ _ _ b _ _ (aims t (c .before .before .before .before .before .before .before .before .before .before .before .before .before .before)) _ _ (c .before .before .before .before .before .before .before .before .before .before .before .size-of .ensures ∙ ap (λ (o : Operand). length (spelling charstringRows o)) (c .before .before .before .before .before .before .before .before .before .before .before .before .before .before .before .before .before .before .before .unpack .ensures)) (c .before .before .before .before .before .before .before .before .before .before .enter .ensures) _ (c .before .before .before .before .before .before .before .before .before .before .before .before .before .before .before .before .before .before .choose .ensures) (c .before .before .before .before .before .before .before .run .result) _ _ (c .before .before .before .before .before .before .before .run .ensures) (c .before .enum-told .given .1),
+)
 
 -- src/charstring.rt:65:33
 run-enum-told-2 : (t : ℕ) → Of run-lts.Need-enum-told-2 t
