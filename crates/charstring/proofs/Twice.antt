@@ -57,7 +57,8 @@ module _ (κs : Lfts 2) (a : Dens κs kinds.ps) (x : AtExit (endedOf 2 kinds.ps 
 
   -- A second call, on those bytes, with the same profile, two empty INDEXes, a budget of t and room for them, is accepted with the same length, in
   -- as many tokens as they have items, and gives the same bytes back: the rest of its room is as lent.
-  module _ (κs′ : Lfts 2) (a′ : Dens κs′ kinds.ps) (r′ : resT kinds.r κs′ .Denot) (x′ : AtExit (endedOf 2 kinds.ps kinds.r) κs′) (second : reads.Post κs′ a′ r′ x′)
+  module _ (κs′ : Lfts 2) (a′ : Dens κs′ kinds.ps) (r′ : resT kinds.r κs′ .Denot)
+      (x′ : AtExit (endedOf 2 kinds.ps kinds.r) κs′) (second : reads.Post κs′ a′ r′ x′)
       (cs-is : a′ .0 .now ≡ reported) (no-globals : a′ .1 .0 .now ≡ empty rules) (no-locals : a′ .1 .1 .0 .now ≡ empty rules)
       (same-profile : a′ .1 .1 .1 .0 ≡ a .1 .1 .1 .0) (budget-is : a′ .1 .1 .1 .1 .0 ≡ t) (room : n ≤ length (a′ .1 .1 .1 .1 .1 .0 .now)) where
     abbrev items : ℕ

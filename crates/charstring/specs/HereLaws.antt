@@ -52,7 +52,8 @@ module _ (rules : Rules) (stack out : List ℕ) (s : State) (t : Now) (r : Repr 
   small =
       let f = struck (t .shown) in
       let m = valid-most rules f (r .good .valid) in
-      let k = mul-le-mul {n₁ = longestItem rules} {m₁ = length f} {n₂ = longestItem rules} {m₂ = length (t .shown)} (le-refl (longestItem rules)) (struck-fewer (t .shown)) in
+      let longest = longestItem rules in
+      let k = mul-le-mul {n₁ = longest} {m₁ = length f} {n₂ = longest} {m₂ = length (t .shown)} (le-refl longest) (struck-fewer (t .shown)) in
       let e = ap (λ (n : ℕ). longestItem rules * n) (r .tokens-are) in
       let l = r .length-is in
       omega arith

@@ -29,7 +29,8 @@ module _ (rules : Rules) (n j : ℕ) (p : Operator) (s : State) where
 
   -- by its kind
   by-kind : (k : Kind) (m : ℕ) → rules .kind p ≡ k
-      → ((lists : Lists) (levels at : ℕ) (rest : List ℕ) (t : Now) → Counts t s → length rest ≡ n - j → onOperator rules lists levels at rest t p k ≡ refuse m t)
+      → ((lists : Lists) (levels at : ℕ) (rest : List ℕ) (t : Now) → Counts t s → length rest ≡ n - j
+      → onOperator rules lists levels at rest t p k ≡ refuse m t)
       → Refused m
   by-kind k m e f =
       record { refusal = λ lists levels at rest t c l. ap (onOperator rules lists levels at rest t p) e ∙ f lists levels at rest t c l }

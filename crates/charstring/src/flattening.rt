@@ -59,7 +59,8 @@ pub fn write<'a>(
     budget: u32,
     out: &mut [u8],
 ) -> Flattened
-    ensures { λ r. ⌜ record { answer = flattened r; left = now (out .exit) } ≡ outcome (now (out .entry)) (original (rulesOf profile) (now (cs .entry)) (now (globals .entry)) (now (locals .entry)) budget) ⌝ }
+    ensures { λ r. ⌜ record { answer = flattened r; left = now (out .exit) }
+        ≡ outcome (now (out .entry)) (original (rulesOf profile) (now (cs .entry)) (now (globals .entry)) (now (locals .entry)) budget) ⌝ }
 {
     let mut held = [0u8; 2048];
     let verdict = draft(cs, globals, locals, profile, budget, &mut held);
@@ -134,7 +135,12 @@ fn keep(out: &mut [u8], n: usize, held: &[u8])
 }
 
 fn limits_of(rules: Rules, budget: u32, globals: &[u8], locals: &[u8]) -> Limits
-    ensures { λ r. ⌜ r ≡ record { rules = rules; budget = budget; globals = countOf rules (now (globals .entry)); locals = countOf rules (now (locals .entry)) } ⌝ }
+    ensures { λ r. ⌜ r ≡ record {
+      rules = rules;
+      budget = budget;
+      globals = countOf rules (now (globals .entry));
+      locals = countOf rules (now (locals .entry));
+    } ⌝ }
 {
     let width = rules.width;
     Limits {

@@ -279,7 +279,8 @@ run-returns-2 t c =
     let e =
     aims-at _ _ _ _ _ _ _ _ _ _ _ (at-choose .choose .ensures) (at-count .choose-count .ensures) (at-choose .before .unpack .ensures)
     (c .before .target .given .1) (at-aim .aim .ensures .0) in
-    arm-no _ _ _ _ _ _ _ _ _ _ _ _ _ _ (at-call t (c .before .before .before .before .before .before .before .before .before .before)) (c .before .target .given .0 .0) e
+    let b = at-call t (c .before .before .before .before .before .before .before .before .before .before) in
+    arm-no _ _ _ _ _ _ _ _ _ _ _ _ _ _ b (c .before .target .given .0 .0) e
 
 -- src/charstring.rt:54:35
 run-enum-known-target-2 : (t : ℕ) → Of run-lts.Need-enum-known-target-2 t

@@ -67,7 +67,10 @@ enum-known-how c = search needs
 
 -- src/flattening.rt:114:53
 counted-requires : tie.Need-counted-requires
-counted-requires c κs = few-tokens _ _ _ _ _ (ran (c .before .before .before .before .before .before .before)) _ (c .before .how .given .1) (c .before .before .before .before .before .before .before .before .before .before .before .before .before .before .before .before .before .args .budget) (tokens-budget _ _ _ _) (c .before .before .before .before .before .before .before .before .before .before .before .before .before .before .before .before .before .fits .budget .fits)
+counted-requires c κs =
+    let at-run = c .before .before .before .before .before .before .before in
+    let start = at-run .before .before .before .before .before .before .before .before .before .before in
+    few-tokens _ _ _ _ _ (ran at-run) _ (c .before .how .given .1) (start .args .budget) (tokens-budget _ _ _ _) (start .fits .budget .fits)
 
 -- src/flattening.rt:94:1
 same-length : tie.Need-same-length
@@ -91,7 +94,9 @@ same-length-3 c = search needs
 
 -- src/flattening.rt:94:1
 returns-3 : tie.Need-returns-3
-returns-3 c = let d = ran (c .before .before .before .before .before .before .before .before) in (was-stopped _ _ _ _ _ d _ (c .before .before .how .given .1) _ (c .counted .ensures), d .bytes)
+returns-3 c =
+    let d = ran (c .before .before .before .before .before .before .before .before) in
+    (was-stopped _ _ _ _ _ d _ (c .before .before .how .given .1) _ (c .counted .ensures), d .bytes)
 
 pub draft-spec : {M : Type 1} → statement M
 draft-spec =

@@ -6,7 +6,8 @@ use lib.Seq.{length-take-le}
 use types.Run.{OneOf, miss}
 use denote.Enum.Declared.{tagOf}
 use Rattle.number.specs.Answer.{leaving}
-use Rattle.reading.specs.Reading.{Run}
+use Rattle.reading.specs.Rules.{rulesOf}
+use Rattle.reading.specs.Reading.{Run, original}
 use Rattle.reading.specs.Answers.{flattened, verdict, outcome}
 use Rattle.reading.specs.declared.Flattened.{Flattened}
 use Rattle.reading.specs.declared.Flattened.the-variants.{Accepted, BadGlobals, BadLocals, Refused, NoRoom}
@@ -32,6 +33,14 @@ refused-so out x BadLocals k e = by-refusal out x _ _ e
 refused-so out x (Refused w t) k e = by-refusal out x _ _ e
 refused-so out x (NoRoom n t) k e = by-refusal out x _ _ e
 
+-- an accepted verdict is the reading's
+accepted : (c : tie.After-verdict)
+    → let draft = c .before .before .before in
+    let args = draft .before .before .before .before .before .before .args in
+    flattened (Accepted (c .verdict .given .0 .0) (c .verdict .given .0 .1 .0))
+    ≡ verdict (original (rulesOf (args .profile)) (args .cs .now) (args .globals .now) (args .locals .now) (args .budget))
+accepted c = ap flattened (sym (c .verdict .given .1)) ∙ c .before .before .before .draft .ensures .0
+
 -- src/flattening.rt:64:63
 slice-aggregate-draft : tie.Need-slice-aggregate-draft
 slice-aggregate-draft c = search needs
@@ -50,7 +59,7 @@ returns c = refused-so _ _ (c .before .before .draft .result) (c .match .keys2) 
 
 -- src/flattening.rt:69:9
 returns-2 : tie.Need-returns-2
-returns-2 c = by-short _ _ _ _ (ap flattened (sym (c .before .before .verdict .given .1)) ∙ c .before .before .before .before .before .draft .ensures .0) (c .if1 .taken)
+returns-2 c = by-short _ _ _ _ (accepted (c .before .before)) (c .if1 .taken)
 
 -- src/flattening.rt:72:22
 slice-aggregate-keep : tie.Need-slice-aggregate-keep
@@ -78,7 +87,11 @@ same-length c = search needs
 
 -- src/flattening.rt:53:1
 returns-3 : tie.Need-returns-3
-returns-3 c = by-held _ _ _ _ (ap flattened (sym (c .before .before .before .before .before .before .before .before .verdict .given .1)) ∙ c .before .before .before .before .before .before .before .before .before .before .before .draft .ensures .0) (c .before .before .before .before .before .before .if1 .left) _ (c .before .before .before .before .before .before .before .before .before .before .before .draft .ensures .1) (omega arith) _ (c .before .before .keep .ensures)
+returns-3 c =
+    let at-if = c .before .before .before .before .before .before in
+    let at-verdict = at-if .before .before in
+    by-held _ _ _ _ (accepted at-verdict) (at-if .if1 .left) _ (at-verdict .before .before .before .draft .ensures .1) (omega arith) _
+    (c .before .before .keep .ensures)
 
 -- src/flattening.rt:53:1
 same-length-2 : tie.Need-same-length-2
@@ -86,7 +99,10 @@ same-length-2 c = search needs
 
 -- src/flattening.rt:53:1
 returns-4 : tie.Need-returns-4
-returns-4 c = by-part _ _ _ _ (ap flattened (sym (c .before .before .before .before .before .before .before .verdict .given .1)) ∙ c .before .before .before .before .before .before .before .before .before .before .draft .ensures .0) (c .before .before .before .before .before .if1 .left) _ (c .before .before .draft2 .ensures .1) (c .before .before .draft2 .kept .1 .1 .1 .1 .1 .0)
+returns-4 c =
+    let at-if = c .before .before .before .before .before in
+    let again = c .before .before .draft2 in
+    by-part _ _ _ _ (accepted (at-if .before .before)) (at-if .if1 .left) _ (again .ensures .1) (again .kept .1 .1 .1 .1 .1 .0)
 
 pub write-spec : {M : Type 1} → statement M
 write-spec =

@@ -273,7 +273,8 @@ mask-requires c κs =
 -- src/stretch.rt:60:5
 loop-less-4 : tie.Need-loop-less-4 Inv-loop μ-loop
 loop-less-4 c =
-    let a = masks (c .before .before .before .before .before .before .before .before .before .before .before) in omega (arith, a .looked .0 .begun, a .looked .3, a .looked .4)
+    let a = masks (c .before .before .before .before .before .before .before .before .before .before .before) in
+    omega (arith, a .looked .0 .begun, a .looked .3, a .looked .4)
 
 -- src/stretch.rt:60:5
 loop-again-4 : tie.Need-loop-again-4 Inv-loop μ-loop
@@ -364,7 +365,9 @@ same-length-5 c = c .before .before .before .before .before .before .before .bef
 
 -- src/stretch.rt:99:17
 same-length-6 : tie.Need-same-length-6 Inv-loop μ-loop
-same-length-6 c = let at-put = c .before .before .before .before in at-put .put-operator3 .kept .0 ∙ at-put .before .before .before .before .before .before .loop .inv .1
+same-length-6 c =
+    let at-put = c .before .before .before .before in
+    at-put .put-operator3 .kept .0 ∙ at-put .before .before .before .before .before .before .loop .inv .1
 
 -- src/stretch.rt:99:17
 returns-3 : tie.Need-returns-3 Inv-loop μ-loop
