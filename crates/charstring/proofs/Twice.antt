@@ -1,6 +1,6 @@
 -- The demands of the program: what the contracts of two calls of `flatten` say, the second on the first's output with two empty INDEXes. Stated
 -- over the contract's own reading. Assumes nothing but that the lent slices hold bytes, which their type says.
-use mathlib.Core.Path.{_≡_, sym, ap, subst, _∙_}
+use mathlib.Core.Path.{_≡_, sym, subst, _∙_}
 use mathlib.Core.List.{List, _++_}
 use Prim.Native.Nat.{ℕ, _≤_}
 use lib.ListN.{length, take, drop}
@@ -13,7 +13,7 @@ use Rattle.reading.specs.Rules.{Rules, rulesOf}
 use Rattle.reading.specs.Tokens.{Bytes}
 use Rattle.reading.specs.Flat.{straight}
 use Rattle.reading.specs.Masks.{StemsFirst, ByNote}
-use Rattle.reading.specs.Answers.{Flattening, flattened, flattening}
+use Rattle.reading.specs.Answers.{flattened, flattening}
 use Rattle.reading.specs.Demands.{SameGlyph, empty}
 use Rattle.reading.specs.DemandLaws.{demand-three, masks-by-note, within-budget}
 use Rattle.reading.specs.declared.Flattened.the-variants.{Accepted}

@@ -24,7 +24,7 @@ use Rattle.reading.specs.ValidLaws.{index-is-last}
 use Rattle.reading.specs.Answers.{numberOf}
 use Rattle.reading.specs.declared.Refusal.{Refusal}
 use Rattle.reading.specs.declared.Which.{Which}
-use Rattle.charstring.specs.Words.{unpackOf, stackOf, asEntry, enterable, aimBy, aimed, targetOf}
+use Rattle.charstring.specs.Words.{unpackOf, stackOf, asEntry, aimBy, aimed, targetOf}
 use Rattle.charstring.specs.WordsLaws.{begins-cut, stack-last}
 use Rattle.charstring.specs.States.{entered}
 use Rattle.charstring.specs.Run.{CallsAt, Begins, tailOf, Repr, howOf, Setup, below, whole, onwards, Here, Done}

@@ -1,21 +1,21 @@
 -- What a turn of `run` comes to, whatever state of the reading it started from: a stretch that ends the string, and a call. Assumes nothing.
 use mathlib.Core.Path.{_≡_, refl, sym, ap, subst, _∙_}
 use mathlib.Core.List.{List}
-use Prim.Native.Nat.{ℕ, _+_, _-_, _≤_, _<_}
+use Prim.Native.Nat.{ℕ, _-_, _≤_, _<_}
 use native.Mathlib.Omega.{arith}
 use lib.ListN.{length, getD, take, drop}
 use Rattle.number.specs.Number.{charstringRows}
 use Rattle.number.specs.Written.{spelling}
 use Rattle.number.specs.declared.Operand.{Operand}
 use Rattle.reading.specs.Rules.{meant}
-use Rattle.reading.specs.Lists.{listed, subrsOf, listsOf}
+use Rattle.reading.specs.Lists.{listsOf}
 use Rattle.reading.specs.Tokens.{Bytes}
 use Rattle.reading.specs.Reading.{State as Now}
 use Rattle.reading.specs.SameGlyphLaws.{lists-bytes}
 use Rattle.reading.specs.declared.Refusal.{Refusal}
 use Rattle.reading.specs.declared.Which.{Which}
 use Rattle.reading.specs.declared.Which.the-variants.{Local, Global}
-use Rattle.charstring.specs.Words.{unpackOf, aimed, targetOf, Inside}
+use Rattle.charstring.specs.Words.{unpackOf, aimed, targetOf}
 use Rattle.charstring.specs.States.{entered}
 use Rattle.charstring.specs.Run.{CallsAt, Repr, Here, Roomy, Reached, Standing, StretchesTo}
 use Rattle.charstring.specs.Run.{chosen, chosenCount, Setting, Sound, grounded, around, RunsTo}

@@ -14,11 +14,6 @@ use Rattle.reading.specs.AnswerLaws.{gate-open}
 use borrow.Author.Needs.{needs}
 use Rattle.charstring.proofs.flattening.flatten.Statement.{statement}
 use Rattle.charstring.proofs.flattening.flatten.Tie as tie
-use Rattle.charstring.proofs.flattening.flatten.Reads as reads
-use Rattle.charstring.proofs.flattening.flatten.Lts as lts
-use Rattle.charstring.proofs.flattening.write.Reads as write-reads
-use Rattle.index.proofs.well_formed.Reads as well-formed-reads
-use Rattle.reading.proofs.rules_of.Reads as rules-of-reads
 
 -- a list that is not well formed, by each of its reasons
 shut : (k : ℕ) (out : List ℕ) (f : Formation) (then : Outcome (Answer Flattening)) (r : Formed)
@@ -57,30 +52,30 @@ locals-formed : (c : tie.After-well-formed2)
     formed (c .well-formed2 .result) ≡ formation (rulesOf (args .profile) .width) (args .locals .now)
 locals-formed c = formed-by _ _ _ (c .well-formed2 .result) (c .before .before .before .before .rules-of .ensures) (c .well-formed2 .ensures)
 
--- src/flattening.rt:40:9
+-- src/flattening.rt:41:9
 rules-of-requires : tie.Need-rules-of-requires
 rules-of-requires c κs = search needs
 
--- src/flattening.rt:42:26
+-- src/flattening.rt:43:26
 well-formed-requires : tie.Need-well-formed-requires
 well-formed-requires c κs = search needs
 
 enum-told : tie.Need-enum-told
 enum-told c = search needs
 
--- src/flattening.rt:43:9
+-- src/flattening.rt:44:9
 returns : tie.Need-returns
 unfolding flattening
 returns c = shut 1 _ _ _ (c .before .well-formed .result) (c .match .keys2) (globals-formed (c .before))
 
--- src/flattening.rt:45:26
+-- src/flattening.rt:46:26
 well-formed-requires-2 : tie.Need-well-formed-requires-2
 well-formed-requires-2 c κs = search needs
 
 enum-told-2 : tie.Need-enum-told-2
 enum-told-2 c = search needs
 
--- src/flattening.rt:46:9
+-- src/flattening.rt:47:9
 returns-2 : tie.Need-returns-2
 unfolding flattening
 returns-2 c =
@@ -89,7 +84,7 @@ returns-2 c =
     shut 2 _ _ _ (c .before .well-formed2 .result) (c .match2 .keys2) (locals-formed (c .before))
     ∙ opened 1 _ _ _ (globals .well-formed .result) (at-match .match .keys1) (globals-formed globals)
 
--- src/flattening.rt:48:5
+-- src/flattening.rt:49:5
 write-requires : tie.Need-write-requires
 write-requires c κs = search needs
 

@@ -13,21 +13,6 @@ use Rattle.charstring.specs.declared.stretch.Ending.the-variants.{Back, 
 use Rattle.charstring.specs.declared.stretch.Stop.the-variants.{Done as Finished}
 use Rattle.charstring.proofs.stretch.stretch.Statement.{statement}
 use Rattle.charstring.proofs.stretch.stretch.Tie as tie
-use Rattle.charstring.proofs.stretch.stretch.Reads as reads
-use Rattle.charstring.proofs.stretch.stretch.Lts as lts
-use Rattle.charstring.proofs.argstack.pack.Reads as pack-reads
-use Rattle.charstring.proofs.argstack.pack_short.Reads as pack-short-reads
-use Rattle.charstring.proofs.look.look.Reads as look-reads
-use Rattle.charstring.proofs.state.clear.Reads as clear-reads
-use Rattle.charstring.proofs.state.finish.Reads as finish-reads
-use Rattle.charstring.proofs.state.go_back.Reads as go-back-reads
-use Rattle.charstring.proofs.state.mask.Reads as mask-reads
-use Rattle.charstring.proofs.state.push.Reads as push-reads
-use Rattle.charstring.proofs.store.put_bytes.Reads as put-bytes-reads
-use Rattle.charstring.proofs.store.put_operand.Reads as put-operand-reads
-use Rattle.charstring.proofs.store.put_operator.Reads as put-operator-reads
-use Rattle.charstring.proofs.store.put_two.Reads as put-two-reads
-use Rattle.charstring.proofs.stretch.ended.Reads as ended-reads
 
 abbrev Inv-loop : tie.InvT-loop
 Inv-loop cs from by stack₀ out₀ st₀ i₀ stack out st i =
