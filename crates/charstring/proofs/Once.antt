@@ -11,7 +11,8 @@ use Rattle.number.specs.Answer.{Answer, accepted, refused, lengthOr, tokensOr}
 use Rattle.number.specs.AnswerLaws.{answer-as, left-as}
 use Rattle.reading.specs.Answers.{Flattening, numberOf, flattened}
 use Rattle.reading.specs.declared.Refusal.{Refusal}
-use Rattle.reading.specs.declared.Refusal.the-variants.{BudgetSpent, BytesLacking, TooManyOperands, UnknownOperator, NoIndex, IndexNotLast, NoEntry, TooDeep, TooManyHints, Composite}
+use Rattle.reading.specs.declared.Refusal.the-variants.{BudgetSpent, BytesLacking, TooManyOperands, UnknownOperator, NoIndex}
+use Rattle.reading.specs.declared.Refusal.the-variants.{IndexNotLast, NoEntry, TooDeep, TooManyHints, Composite}
 use Rattle.reading.specs.declared.Flattened.{Flattened}
 use Rattle.reading.specs.declared.Flattened.the-variants.{Accepted, BadGlobals, BadLocals, Refused, NoRoom}
 use Rattle.charstring.proofs.flattening.flatten.Kinds as flatten-kinds

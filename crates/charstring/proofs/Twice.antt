@@ -1,6 +1,6 @@
 -- The demands of the program: what the contracts of two calls of `flatten` say, the second on the first's output with two empty INDEXes. Stated
 -- over the contract's own reading. Assumes nothing but that the lent slices hold bytes, which their type says.
-use mathlib.Core.Path.{_≡_, sym, ap, subst, _∙_}
+use mathlib.Core.Path.{_≡_, sym, subst, _∙_}
 use mathlib.Core.List.{List, _++_}
 use Prim.Native.Nat.{ℕ, _≤_}
 use lib.ListN.{length, take, drop}
@@ -13,7 +13,7 @@ use Rattle.reading.specs.Rules.{Rules, rulesOf}
 use Rattle.reading.specs.Tokens.{Bytes}
 use Rattle.reading.specs.Flat.{straight}
 use Rattle.reading.specs.Masks.{StemsFirst, ByNote}
-use Rattle.reading.specs.Answers.{Flattening, flattened, flattening}
+use Rattle.reading.specs.Answers.{flattened, flattening}
 use Rattle.reading.specs.Demands.{SameGlyph, empty}
 use Rattle.reading.specs.DemandLaws.{demand-three, masks-by-note, within-budget}
 use Rattle.reading.specs.declared.Flattened.the-variants.{Accepted}
@@ -57,7 +57,8 @@ module _ (κs : Lfts 2) (a : Dens κs kinds.ps) (x : AtExit (endedOf 2 kinds.ps 
 
   -- A second call, on those bytes, with the same profile, two empty INDEXes, a budget of t and room for them, is accepted with the same length, in
   -- as many tokens as they have items, and gives the same bytes back: the rest of its room is as lent.
-  module _ (κs′ : Lfts 2) (a′ : Dens κs′ kinds.ps) (r′ : resT kinds.r κs′ .Denot) (x′ : AtExit (endedOf 2 kinds.ps kinds.r) κs′) (second : reads.Post κs′ a′ r′ x′)
+  module _ (κs′ : Lfts 2) (a′ : Dens κs′ kinds.ps) (r′ : resT kinds.r κs′ .Denot)
+      (x′ : AtExit (endedOf 2 kinds.ps kinds.r) κs′) (second : reads.Post κs′ a′ r′ x′)
       (cs-is : a′ .0 .now ≡ reported) (no-globals : a′ .1 .0 .now ≡ empty rules) (no-locals : a′ .1 .1 .0 .now ≡ empty rules)
       (same-profile : a′ .1 .1 .1 .0 ≡ a .1 .1 .1 .0) (budget-is : a′ .1 .1 .1 .1 .0 ≡ t) (room : n ≤ length (a′ .1 .1 .1 .1 .1 .0 .now)) where
     abbrev items : ℕ

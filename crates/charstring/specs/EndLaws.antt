@@ -1,12 +1,12 @@
 -- How a string ends that is run: its bytes run out, a return, an endchar, a refusal. Assumes nothing.
-use mathlib.Core.Path.{_≡_, refl, sym, ap, subst, _∙_}
+use mathlib.Core.Path.{_≡_, sym, ap, subst, _∙_}
 use mathlib.Core.List.{List, _++_}
 use Prim.Native.Nat.{ℕ, suc, _+_, _≤_, _<_}
 use native.Mathlib.Omega.{arith}
 use lib.ListN.{length, drop, length-append}
 use lib.Seq.{sets}
 use Rattle.reading.specs.Items.{bare}
-use Rattle.reading.specs.Reading.{struck, Ending as How, back, ended, stopped, Run, State as Now, refuse, shows, returned as behind-return}
+use Rattle.reading.specs.Reading.{struck, back, ended, stopped, Run, State as Now, refuse, shows, returned as behind-return}
 use Rattle.reading.specs.Flat.{operatorBytes, spelled, flat}
 use Rattle.reading.specs.StepLaws.{returns, ends}
 use Rattle.reading.specs.Answers.{numberOf}
@@ -20,7 +20,6 @@ use Rattle.charstring.specs.HereLaws.{stepped, counted-as, taken, led, h
 use Rattle.charstring.specs.declared.state.State.{State}
 use Rattle.charstring.specs.declared.stretch.Ending.{Ending}
 use Rattle.charstring.specs.declared.stretch.Ending.the-variants.{Back, Ended, Refused}
-use Rattle.charstring.specs.declared.stretch.Ran.{Ran}
 
 ended-not-back : ended ≡ back → ⊥
 ended-not-back e = let z : _≡_ {A = ℕ} 0 1 = cc in omega arith

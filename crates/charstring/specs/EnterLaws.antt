@@ -24,7 +24,7 @@ use Rattle.reading.specs.ValidLaws.{index-is-last}
 use Rattle.reading.specs.Answers.{numberOf}
 use Rattle.reading.specs.declared.Refusal.{Refusal}
 use Rattle.reading.specs.declared.Which.{Which}
-use Rattle.charstring.specs.Words.{unpackOf, stackOf, asEntry, enterable, aimBy, aimed, targetOf}
+use Rattle.charstring.specs.Words.{unpackOf, stackOf, asEntry, aimBy, aimed, targetOf}
 use Rattle.charstring.specs.WordsLaws.{begins-cut, stack-last}
 use Rattle.charstring.specs.States.{entered}
 use Rattle.charstring.specs.Run.{CallsAt, Begins, tailOf, Repr, howOf, Setup, below, whole, onwards, Here, Done}
@@ -159,24 +159,25 @@ module _ (u : Setup) (stack out : List ℕ) (s : State) (i : ℕ) (h : Here u st
   abbrev onNumbered : Answer ℕ → Step
   onNumbered = onIndex (u .levels) (drop j (u .cs)) (h .now) which (listed (u .lists) which) (place-of u stack out s i h) top
 
+  abbrev onOperands : List Operand → Step
+  onOperands = onCall (u .levels) (drop j (u .cs)) (h .now) which (listed (u .lists) which) (place-of u stack out s i h) (u .rules .exact)
+
   -- the token, once the operand and what it names are known
   call-step : stepped u stack out s i h ≡ onNumbered (callee (u .rules .exact) count top)
   unfolding onToken onCut onOperator onCall
   call-step =
-      let at = place-of u stack out s i h in
-      let first-step : stepped u stack out s i h ≡ onCall (u .levels) (drop j (u .cs)) (h .now) which (listed (u .lists) which) at (u .rules .exact) (h .now .left .operands)
+      let first-step : stepped u stack out s i h ≡ onOperands (h .now .left .operands)
       = rw (lt-ltb (length (h .now .shown)) (u .budget) (within u stack out s i h (a .1 .begun .within)), a .1 .cut-is, a .2) in
-      first-step
-      ∙ ap (onCall (u .levels) (drop j (u .cs)) (h .now) which (listed (u .lists) which) at (u .rules .exact)) ops-are
-      ∙ ap onNumbered callee-is
+      first-step ∙ ap onOperands ops-are ∙ ap onNumbered callee-is
 
   refusal-step : (x : Answer ℕ) (n : ℕ) → aimBy (u .rules .width) list (u .levels) (s .tail) x ≡ refused n alone → onNumbered x ≡ refuse n (h .now)
   unfolding onIndex aimBy
   refusal-step (refused m v) n e = same-refusal m n (h .now) _ _ refl refl e
   refusal-step (accepted m) n e =
       let c : Entering = record { list = which; entry = m; at = place-of u stack out s i h; index = top } in
+      let entry = entryBy (part (u .rules .width) list m) (place (u .rules .width) list m) in
       ap (λ y. onEntry (drop j (u .cs)) (h .now) c (admitted (u .levels) (endsInOperand (struck (h .now .shown))) y)) (entry-is m)
-      ∙ ap (λ (z : Bool). onEntry (drop j (u .cs)) (h .now) c (admitted (u .levels) z (entryBy (part (u .rules .width) list m) (place (u .rules .width) list m)))) ends-is
+      ∙ ap (λ (z : Bool). onEntry (drop j (u .cs)) (h .now) c (admitted (u .levels) z entry)) ends-is
       ∙ entry-refused (u .levels) (ltb 0 (s .tail)) (drop j (u .cs)) (h .now) c (place (u .rules .width) list m) (part (u .rules .width) list m) n e
 
   pub by-no : (r : Refusal) → targetOf (No r) ≡ aimed (u .rules) list count top (u .levels) (s .tail) → EndsWith u stack out s i h (Refused r) s out

@@ -1,15 +1,14 @@
 -- Where the code stands in a string: one token leads on, ends the string, or none is left. Assumes nothing.
 use mathlib.Core.Path.{_≡_, refl, sym, ap, subst, _∙_}
 use mathlib.Core.List.{List, [], _∷_}
-use Prim.Native.Nat.{ℕ, zero, suc, _+_, _-_, _*_, _≤_, _<_, zero-le}
+use Prim.Native.Nat.{ℕ, zero, suc, _-_, _*_, _≤_, _<_, zero-le}
 use native.Mathlib.Nat.{le-refl, mul-le-mul}
 use native.Mathlib.Omega.{arith}
 use lib.ListN.{length, drop, length-drop}
 use Rattle.reading.specs.Rules.{Rules}
-use Rattle.reading.specs.Lists.{Lists}
 use Rattle.reading.specs.Tokens.{Bytes}
 use Rattle.reading.specs.Items.{Item, operand, bare, masked, Left, leaves, leftBy}
-use Rattle.reading.specs.Reading.{struck, Ending as How, back, Run, State as Now, Step, halt, go, enter, onToken, after, tokensOf, read}
+use Rattle.reading.specs.Reading.{struck, Ending as How, back, Run, State as Now, Step, halt, go, onToken, after, tokensOf, read}
 use Rattle.reading.specs.StepLaws.{Goes, token-goes}
 use Rattle.reading.specs.RunLaws.{Led}
 use Rattle.reading.specs.ValidLaws.{ByteLists, Good, Ends, good-goes}
@@ -52,7 +51,8 @@ module _ (rules : Rules) (stack out : List ℕ) (s : State) (t : Now) (r : Repr 
   small =
       let f = struck (t .shown) in
       let m = valid-most rules f (r .good .valid) in
-      let k = mul-le-mul {n₁ = longestItem rules} {m₁ = length f} {n₂ = longestItem rules} {m₂ = length (t .shown)} (le-refl (longestItem rules)) (struck-fewer (t .shown)) in
+      let longest = longestItem rules in
+      let k = mul-le-mul {n₁ = longest} {m₁ = length f} {n₂ = longest} {m₂ = length (t .shown)} (le-refl longest) (struck-fewer (t .shown)) in
       let e = ap (λ (n : ℕ). longestItem rules * n) (r .tokens-are) in
       let l = r .length-is in
       omega arith

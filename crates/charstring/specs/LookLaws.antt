@@ -29,7 +29,8 @@ module _ (rules : Rules) (n j : ℕ) (p : Operator) (s : State) where
 
   -- by its kind
   by-kind : (k : Kind) (m : ℕ) → rules .kind p ≡ k
-      → ((lists : Lists) (levels at : ℕ) (rest : List ℕ) (t : Now) → Counts t s → length rest ≡ n - j → onOperator rules lists levels at rest t p k ≡ refuse m t)
+      → ((lists : Lists) (levels at : ℕ) (rest : List ℕ) (t : Now) → Counts t s → length rest ≡ n - j
+      → onOperator rules lists levels at rest t p k ≡ refuse m t)
       → Refused m
   by-kind k m e f =
       record { refusal = λ lists levels at rest t c l. ap (onOperator rules lists levels at rest t p) e ∙ f lists levels at rest t c l }
@@ -88,8 +89,10 @@ module _ (rules : Rules) (n j : ℕ) (p : Operator) (s : State) where
   mask-lacks x m e f h k =
       by-kind Mask 4 e
       (λ lists levels at rest t c l.
-      rw (le-leb (atMask (t .left) .hints) (rules .hints) (let q = f t c .0 in omega arith),
-      lt-leb (atMask (t .left) .mask) (length rest) (let q = f t c .1 in omega arith)))
+      rw (
+        le-leb (atMask (t .left) .hints) (rules .hints) (let q = f t c .0 in omega arith),
+        lt-leb (atMask (t .left) .mask) (length rest) (let q = f t c .1 in omega arith),
+      ))
 
   pub first-many : rules .kind p ≡ Mask → s .mask ≡ 0 → rules .hints < s .hints + s .count / 2 → Refused 11
   first-many e z h = mask-many _ _ e (mask-first z) h

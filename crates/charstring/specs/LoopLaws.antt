@@ -1,23 +1,24 @@
 -- What a turn of `run` comes to, whatever state of the reading it started from: a stretch that ends the string, and a call. Assumes nothing.
 use mathlib.Core.Path.{_≡_, refl, sym, ap, subst, _∙_}
 use mathlib.Core.List.{List}
-use Prim.Native.Nat.{ℕ, _+_, _-_, _≤_, _<_}
+use Prim.Native.Nat.{ℕ, _-_, _≤_, _<_}
 use native.Mathlib.Omega.{arith}
 use lib.ListN.{length, getD, take, drop}
 use Rattle.number.specs.Number.{charstringRows}
 use Rattle.number.specs.Written.{spelling}
 use Rattle.number.specs.declared.Operand.{Operand}
 use Rattle.reading.specs.Rules.{meant}
-use Rattle.reading.specs.Lists.{listed, subrsOf, listsOf}
+use Rattle.reading.specs.Lists.{listsOf}
 use Rattle.reading.specs.Tokens.{Bytes}
 use Rattle.reading.specs.Reading.{State as Now}
 use Rattle.reading.specs.SameGlyphLaws.{lists-bytes}
 use Rattle.reading.specs.declared.Refusal.{Refusal}
 use Rattle.reading.specs.declared.Which.{Which}
 use Rattle.reading.specs.declared.Which.the-variants.{Local, Global}
-use Rattle.charstring.specs.Words.{unpackOf, aimed, targetOf, Inside}
+use Rattle.charstring.specs.Words.{unpackOf, aimed, targetOf}
 use Rattle.charstring.specs.States.{entered}
-use Rattle.charstring.specs.Run.{CallsAt, Repr, Here, Roomy, Reached, Standing, StretchesTo, chosen, chosenCount, Setting, Sound, grounded, around, RunsTo}
+use Rattle.charstring.specs.Run.{CallsAt, Repr, Here, Roomy, Reached, Standing, StretchesTo}
+use Rattle.charstring.specs.Run.{chosen, chosenCount, Setting, Sound, grounded, around, RunsTo}
 use Rattle.charstring.specs.HereLaws.{begin}
 use Rattle.charstring.specs.EnterLaws.{Named, by-no, found, deeper, inner-repr, index-fits, came-back, passed-on}
 use Rattle.charstring.specs.StretchLaws.{Safe, safe-here}
@@ -78,14 +79,16 @@ module _ (cs globals locals : List ℕ) (by : Limits) (levels : ℕ) (stack₀ o
     pub arm-done : (r : Stretched) (stack₁ out₁ : List ℕ) → StretchesTo cs by stack out s i r stack₁ out₁ → (how : Ending) → r .stop ≡ Finished how
         → Gives (record { how = how; st = r .st }) stack₁ out₁
     unfolding StretchesTo RunsTo
-    arm-done r stack₁ out₁ d how e = λ t p. subst (λ (x : Stop). Reached cs by (grounded globals locals by levels t) i stack₁ out₁ (r .st) x) e (d _ (h .stands t p))
+    arm-done r stack₁ out₁ d how e = λ t p.
+        subst (λ (x : Stop). Reached cs by (grounded globals locals by levels t) i stack₁ out₁ (r .st) x) e (d _ (h .stands t p))
 
   -- ---- a stretch that stands before a call, with the state r
 
   pub record Before (i : ℕ) (r : State) (stack out : List ℕ) (next : ℕ) (w : Which) : Type 0 where
     pub setting : Setting globals locals by stack
     pub sound : Sound by stack₀ out₀ s₀
-    pub stands : Each (λ t. (j : ℕ) × (i ≤ j) × Here (around cs globals locals by levels t) stack out r j × CallsAt (meant (by .rules)) cs j (by .budget) r next w)
+    pub stands : Each
+        (λ t. (j : ℕ) × (i ≤ j) × Here (around cs globals locals by levels t) stack out r j × CallsAt (meant (by .rules)) cs j (by .budget) r next w)
 
   pub before : (stack out : List ℕ) (s : State) (i : ℕ) → Turn stack out s i → (r : Stretched) (stack₁ out₁ : List ℕ)
       → StretchesTo cs by stack out s i r stack₁ out₁ → length stack₁ ≡ length stack → (next : ℕ) (w : Which) → r .stop ≡ Calling next w

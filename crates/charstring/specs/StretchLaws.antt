@@ -1,5 +1,5 @@
 -- What a turn of `stretch` comes to, on whatever ground it started: one law for each request. Assumes nothing.
-use mathlib.Core.Path.{_≡_, refl, sym, ap, subst, _∙_}
+use mathlib.Core.Path.{_≡_, sym, ap, subst, _∙_}
 use mathlib.Core.Bool.{Bool, true, false, cond}
 use mathlib.Core.List.{List, [], _∷_, _++_, append-nil}
 use Prim.Native.Nat.{ℕ, _+_, _-_, _*_, _≤_, _<_}
@@ -27,7 +27,6 @@ use Rattle.charstring.specs.declared.state.State.{State}
 use Rattle.charstring.specs.declared.look.Limits.{Limits}
 use Rattle.charstring.specs.declared.look.Request.{Request}
 use Rattle.charstring.specs.declared.look.Request.the-variants.{Push, Clears, Masks, Calls, Returns, Ends, Out, Bad, Short}
-use Rattle.charstring.specs.declared.stretch.Ending.{Ending}
 use Rattle.charstring.specs.declared.stretch.Ending.the-variants.{Back, Ended, Refused}
 use Rattle.charstring.specs.declared.stretch.Stop.the-variants.{Done as Finished, Call as Calling}
 use Rattle.charstring.specs.declared.stretch.Stretched.{Stretched}

@@ -19,9 +19,9 @@ use Rattle.reading.specs.ValidLaws.{Good}
 use Rattle.reading.specs.declared.Operator.{Operator}
 use Rattle.reading.specs.declared.Kind.the-variants.{Mask}
 use Rattle.charstring.specs.Words.{unpackOf, stackOf}
-use Rattle.charstring.specs.WordsLaws.{sets-append, sets-begins, begins-cut, stack-pushed}
+use Rattle.charstring.specs.WordsLaws.{sets-begins, begins-cut, stack-pushed}
 use Rattle.charstring.specs.States.{pushed, cleared, masked}
-use Rattle.charstring.specs.Run.{Counts, AtOperator, Hinted, stays, counts, MaskFixed, first, later, Pushes, Begins, tailOf, Repr, Setup, Here}
+use Rattle.charstring.specs.Run.{AtOperator, Hinted, stays, counts, MaskFixed, first, later, Pushes, Begins, tailOf, Repr, Setup, Here}
 use Rattle.charstring.specs.HereLaws.{counted-as, taken, led, Leads, goes-on}
 use Rattle.charstring.specs.declared.state.State.{State}
 

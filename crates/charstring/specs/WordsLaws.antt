@@ -18,7 +18,8 @@ use Rattle.charstring.specs.Run.{Begins}
 pub sets-append : (l : List ℕ) (at : ℕ) (xs ys : List ℕ) → sets l at (xs ++ ys) ≡ sets (sets l at xs) (at + length xs) ys
 sets-append l at [] ys = rw add-zero
 sets-append l at (x ∷ xs) ys =
-    sets-append (set l at x) (suc at) xs ys ∙ ap (λ (n : ℕ). sets (sets (set l at x) (suc at) xs) n ys) (let e : suc at + length xs ≡ at + suc (length xs) = omega arith in e)
+    let e : suc at + length xs ≡ at + suc (length xs) = omega arith in
+    sets-append (set l at x) (suc at) xs ys ∙ ap (λ (n : ℕ). sets (sets (set l at x) (suc at) xs) n ys) e
 
 -- ---- what lies past the end is not stored
 

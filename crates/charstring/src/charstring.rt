@@ -27,7 +27,8 @@ pub(crate) fn run<'a>(
 ) -> Ran
     requires { ⌜ Setting (now globals) (now locals) by (now stack) ⌝ }
     requires { ⌜ Sound by (now stack) (now out) s ⌝ }
-    ensures { λ r. ⌜ RunsTo (now (cs .entry)) (now (globals .entry)) (now (locals .entry)) by s (now (stack .entry)) (now (out .entry)) levels r (now (stack .exit)) (now (out .exit)) ⌝ }
+    ensures { λ r. ⌜ RunsTo (now (cs .entry)) (now (globals .entry)) (now (locals .entry)) by s (now (stack .entry)) (now (out .entry))
+        levels r (now (stack .exit)) (now (out .exit)) ⌝ }
 {
     let mut st = s;
     let mut i: usize = 0;
@@ -43,7 +44,14 @@ pub(crate) fn run<'a>(
                 let top = here.count - 1;
                 let o = unpack(stack[top]);
                 let list = choose(which, globals, locals);
-                let target = aim(list, choose_count(which, by), o, by.rules, levels, here.tail);
+                let target = aim(
+                    list,
+                    choose_count(which, by),
+                    o,
+                    by.rules,
+                    levels,
+                    here.tail,
+                );
                 match target {
                     Target::No(k) => {
                         return Ran {

@@ -35,7 +35,8 @@ pub fn flatten<'a>(
     budget: u32,
     out: &mut [u8],
 ) -> Flattened
-    ensures { λ r. ⌜ record { answer = flattened r; left = now (out .exit) } ≡ flattening (rulesOf profile) (now (cs .entry)) (now (globals .entry)) (now (locals .entry)) budget (now (out .entry)) ⌝ }
+    ensures { λ r. ⌜ record { answer = flattened r; left = now (out .exit) }
+        ≡ flattening (rulesOf profile) (now (cs .entry)) (now (globals .entry)) (now (locals .entry)) budget (now (out .entry)) ⌝ }
 {
     let rules = rules_of(profile);
     let width = rules.width;
@@ -58,7 +59,8 @@ pub fn write<'a>(
     budget: u32,
     out: &mut [u8],
 ) -> Flattened
-    ensures { λ r. ⌜ record { answer = flattened r; left = now (out .exit) } ≡ outcome (now (out .entry)) (original (rulesOf profile) (now (cs .entry)) (now (globals .entry)) (now (locals .entry)) budget) ⌝ }
+    ensures { λ r. ⌜ record { answer = flattened r; left = now (out .exit) }
+        ≡ outcome (now (out .entry)) (original (rulesOf profile) (now (cs .entry)) (now (globals .entry)) (now (locals .entry)) budget) ⌝ }
 {
     let mut held = [0u8; 2048];
     let verdict = draft(cs, globals, locals, profile, budget, &mut held);
@@ -105,7 +107,16 @@ fn draft<'a>(
     let rules = rules_of(profile);
     let by = limits_of(rules, budget, globals, locals);
     let mut stack = [0u64; 48];
-    let r = run(cs, globals, locals, by, at_start(), &mut stack, held, rules.levels);
+    let r = run(
+        cs,
+        globals,
+        locals,
+        by,
+        at_start(),
+        &mut stack,
+        held,
+        rules.levels,
+    );
     let how = r.how;
     let st = r.st;
     match how {
@@ -124,7 +135,12 @@ fn keep(out: &mut [u8], n: usize, held: &[u8])
 }
 
 fn limits_of(rules: Rules, budget: u32, globals: &[u8], locals: &[u8]) -> Limits
-    ensures { λ r. ⌜ r ≡ record { rules = rules; budget = budget; globals = countOf rules (now (globals .entry)); locals = countOf rules (now (locals .entry)) } ⌝ }
+    ensures { λ r. ⌜ r ≡ record {
+      rules = rules;
+      budget = budget;
+      globals = countOf rules (now (globals .entry));
+      locals = countOf rules (now (locals .entry));
+    } ⌝ }
 {
     let width = rules.width;
     Limits {

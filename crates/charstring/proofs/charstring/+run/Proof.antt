@@ -1,18 +1,18 @@
 use mathlib.Core.Path.{_≡_, refl, sym, ap, subst, _∙_}
-use mathlib.Core.List.{List}
 use Prim.Native.Nat.{_-_, _≤_}
 use denote.Ref.{now}
 use native.Mathlib.Omega.{arith}
-use lib.ListN.{length, take, drop}
+use lib.ListN.{length, getD}
 use borrow.Author.Needs.{needs}
 use Rattle.number.specs.Number.{charstringRows}
 use Rattle.number.specs.Written.{spelling}
 use Rattle.number.specs.declared.Operand.{Operand}
-use Rattle.charstring.specs.Words.{Inside}
+use Rattle.charstring.specs.Words.{unpackOf, Inside}
 use Rattle.charstring.specs.StretchLaws.{few-tokens}
-use Rattle.charstring.specs.LoopLaws.{Stands, begins, Turn, roomy-now, stands-on, arm-done, Before, before, safe, Aims, arm-no, index-there, inside-sound}
-use Rattle.charstring.specs.LoopLaws.{arm-back, arm-passed, aims-at, ended-goes, refused-goes}
-use Rattle.charstring.specs.declared.subroutines.Target.the-variants.{Enter, No}
+use Rattle.charstring.specs.LoopLaws.{Stands, Gives, begins, Turn, roomy-now, stands-on, arm-done, Before, before, Numbers, safe, Aims, arm-no}
+use Rattle.charstring.specs.LoopLaws.{index-there, inside-sound, arm-back, arm-passed, aims-at, ended-goes, refused-goes}
+use Rattle.charstring.specs.declared.stretch.Ending.the-variants.{Back}
+use Rattle.charstring.specs.declared.subroutines.Target.the-variants.{Enter}
 use Prim.Native.Nat.{ℕ, _<_}
 use borrow.Fn.Kinds.{In, Out}
 use borrow.Fn.PlainCycle.{Measures, is, falls, and}
@@ -46,215 +46,335 @@ abbrev run-μ-loop : run-lts.MeasureT-loop
 run-μ-loop cs globals locals by stack₀ out₀ levels st₀ i₀ stack out st i = length cs - i
 
 abbrev callees : ℕ → run-lts.Claims
-callees t = (stretch-reads.Asked, stretch-reads.Learnt, unpack-reads.Asked, unpack-reads.Learnt, choose-reads.Asked, choose-reads.Learnt, choose-count-reads.Asked, choose-count-reads.Learnt, aim-reads.Asked, aim-reads.Learnt, size-of-reads.Asked, size-of-reads.Learnt, enter-reads.Asked, enter-reads.Learnt, run-below t, run.Post)
+callees t = (
+  stretch-reads.Asked,
+  stretch-reads.Learnt,
+  unpack-reads.Asked,
+  unpack-reads.Learnt,
+  choose-reads.Asked,
+  choose-reads.Learnt,
+  choose-count-reads.Asked,
+  choose-count-reads.Learnt,
+  aim-reads.Asked,
+  aim-reads.Learnt,
+  size-of-reads.Asked,
+  size-of-reads.Learnt,
+  enter-reads.Asked,
+  enter-reads.Learnt,
+  run-below t,
+  run.Post,
+)
 
--- what a need asks, at the callees' contracts, the invariant and the measure
+-- a place, and what a need asks, at the callees' contracts, the invariant and the measure
 abbrev Of : (run-lts.Claims → In 3 run-kinds.ps → Out 3 run-kinds.ps run-kinds.r → run-lts.InvT-loop → run-lts.MeasureT-loop → Type 0) → ℕ → Type 0
 Of need t = need (callees t) (run-at t) run.Post run-Inv-loop run-μ-loop
 
+-- ---- where each place came from
+
+abbrev start-of : (t : ℕ) → Of run-lts.At-loop t → Of run-lts.Start t
+start-of t c = c .before .before .before .before .before .before
+
+abbrev loop-of : (t : ℕ) → Of run-lts.After-stretch t → Of run-lts.At-loop t
+loop-of t c = c .before .before .before
+
+abbrev stretch-of : (t : ℕ) → Of run-lts.After-stop2 t → Of run-lts.After-stretch t
+stretch-of t c = c .before .before .before .before .before .before .before
+
+abbrev call-of : (t : ℕ) → Of run-lts.After-target2 t → Of run-lts.After-stop2 t
+call-of t c = c .before .before .before .before .before .before .before .before .before
+
+abbrev target-of : (t : ℕ) → Of run-lts.After-size-of t → Of run-lts.After-target2 t
+target-of t c = c .before .before .before
+
+abbrev size-of : (t : ℕ) → Of run-lts.After-run t → Of run-lts.After-size-of t
+size-of t c = c .before .before .before .before
+
+-- ---- what is known there
+
 -- where the loop is
-turn-at : (t : ℕ) (c : run-lts.At-loop (callees t) (run-at t) run.Post run-Inv-loop run-μ-loop)
-    → let args = c .before .before .before .before .before .before .args in
+turn-at : (t : ℕ) (c : Of run-lts.At-loop t)
+    → let args = start-of t c .args in
     Turn (args .cs .now) (args .globals .now) (args .locals .now) (args .by) (args .levels) (args .stack .now) (args .out .now) (args .s)
     (c .loop .stack) (c .loop .out) (c .loop .st) (c .loop .i)
 turn-at t c =
-    let start = c .before .before .before .before .before .before in
+    let start = start-of t c in
     record { same-stack = c .loop .inv .0; setting = start .pre .1 .0; sound = start .pre .1 .1; stands = c .loop .inv .2 }
 
+-- behind a stretch the stack and the room have their lengths
+same-stack : (t : ℕ) (c : Of run-lts.After-stretch t)
+    → length (c .stretch .last .1 .1 .1 .1 .0) ≡ length (start-of t (loop-of t c) .args .stack .now)
+same-stack t c = c .stretch .kept .1 .1 .1 .1 .0 ∙ loop-of t c .loop .inv .0
+
+same-out : (t : ℕ) (c : Of run-lts.After-stretch t)
+    → length (c .stretch .last .1 .1 .1 .1 .1 .0) ≡ length (start-of t (loop-of t c) .args .out .now)
+same-out t c = c .stretch .kept .1 .1 .1 .1 .1 .0 ∙ loop-of t c .loop .inv .1
+
 -- where a call was reached
-at-call : (t : ℕ) (c : run-lts.After-stop2 (callees t) (run-at t) run.Post run-Inv-loop run-μ-loop)
-    → let at-stretch = c .before .before .before .before .before .before .before in
-    let at-loop = at-stretch .before .before .before in
-    let args = at-loop .before .before .before .before .before .before .args in
-    let stretch = at-stretch .stretch in
+at-call : (t : ℕ) (c : Of run-lts.After-stop2 t)
+    → let loop = loop-of t (stretch-of t c) in
+    let args = start-of t loop .args in
+    let stretch = stretch-of t c .stretch in
     Before (args .cs .now) (args .globals .now) (args .locals .now) (args .by) (args .levels) (args .stack .now) (args .out .now) (args .s)
-    (at-loop .loop .i) (stretch .result .st) (stretch .last .1 .1 .1 .1 .0) (stretch .last .1 .1 .1 .1 .1 .0)
+    (loop .loop .i) (stretch .result .st) (stretch .last .1 .1 .1 .1 .0) (stretch .last .1 .1 .1 .1 .1 .0)
     (c .stop2 .given .0 .0) (c .stop2 .given .0 .1 .0)
 at-call t c =
-    let at-stretch = c .before .before .before .before .before .before .before in
-    before _ _ _ _ _ _ _ _ _ _ _ _ (turn-at t (at-stretch .before .before .before)) (at-stretch .stretch .result) _ _ (at-stretch .stretch .ensures)
-    (at-stretch .stretch .kept .1 .1 .1 .1 .0) _ _ (c .stop2 .given .1)
+    let stretch = stretch-of t c .stretch in
+    before _ _ _ _ _ _ _ _ _ _ _ _ (turn-at t (loop-of t (stretch-of t c))) (stretch .result) _ _ (stretch .ensures) (stretch .kept .1 .1 .1 .1 .0) _ _
+    (c .stop2 .given .1)
+
+numbers : (t : ℕ) (c : Of run-lts.After-stop2 t) → Numbers _ _ _ _ _ _ _ _ _ _ _ _ _ _ (at-call t c)
+numbers t c = safe _ _ _ _ _ _ _ _ _ _ _ _ _ _ (at-call t c)
 
 -- what was aimed at, and that it lies within the list
-aims : (t : ℕ) (c : run-lts.After-target2 (callees t) (run-at t) run.Post run-Inv-loop run-μ-loop)
-    → Aims _ _ _ _ _ _ _ _ _ _ _ _ _ _ (at-call t (c .before .before .before .before .before .before .before .before .before))
-    (Enter (c .target2 .given .0 .0) (c .target2 .given .0 .1 .0))
+aims : (t : ℕ) (c : Of run-lts.After-target2 t)
+    → Aims _ _ _ _ _ _ _ _ _ _ _ _ _ _ (at-call t (call-of t c)) (Enter (c .target2 .given .0 .0) (c .target2 .given .0 .1 .0))
 aims t c =
     let at-aim = c .before .before in
-    let at-choose-count = at-aim .before in
-    let at-choose = at-choose-count .before in
-    aims-at _ _ _ _ _ _ _ _ _ _ _ (at-choose .choose .ensures) (at-choose-count .choose-count .ensures) (at-choose .before .unpack .ensures)
+    let at-count = at-aim .before in
+    let at-choose = at-count .before in
+    aims-at _ _ _ _ _ _ _ _ _ _ _ (at-choose .choose .ensures) (at-count .choose-count .ensures) (at-choose .before .unpack .ensures)
     (c .target2 .given .1) (at-aim .aim .ensures .0)
 
-inside : (t : ℕ) (c : run-lts.After-target2 (callees t) (run-at t) run.Post run-Inv-loop run-μ-loop)
-    → ((c .target2 .given .0 .0) ≤ (c .target2 .given .0 .1 .0)) × ((c .target2 .given .0 .1 .0) ≤ length (now (c .before .before .before .before .choose .result)))
+inside : (t : ℕ) (c : Of run-lts.After-target2 t)
+    → let from = c .target2 .given .0 .0 in
+    let to = c .target2 .given .0 .1 .0 in
+    (from ≤ to) × (to ≤ length (now (c .before .before .before .before .choose .result)))
 inside t c = subst (Inside _) (c .target2 .given .1) (c .before .before .aim .ensures .1)
 
--- src/charstring.rt:34:5
+-- the bytes of the index, and what is known of an entry
+sized : (t : ℕ) (c : Of run-lts.After-size-of t)
+    → let stretch = stretch-of t (call-of t (target-of t c)) .stretch in
+    c .size-of .result ≡ length (spelling charstringRows (unpackOf (getD (stretch .last .1 .1 .1 .1 .0) (stretch .result .st .count - 1) 0)))
+sized t c =
+    c .size-of .ensures
+    ∙ ap (λ (o : Operand). length (spelling charstringRows o)) (c .before .before .before .before .before .before .before .before .unpack .ensures)
+
+there : (t : ℕ) (c : Of run-lts.After-size-of t)
+    → let at = stretch-of t (call-of t (target-of t c)) in
+    let levels = start-of t (loop-of t at) .args .levels in
+    (c .size-of .result ≤ at .stretch .result .st .length) × (0 < at .stretch .result .st .tail) × (levels ≡ 0 → ⊥)
+there t c =
+    let x = index-there _ _ _ _ _ _ _ _ _ _ _ _ _ _ (at-call t (call-of t (target-of t c))) _ _ (aims t (target-of t c)) in
+    (subst (λ (m : ℕ). m ≤ stretch-of t (call-of t (target-of t c)) .stretch .result .st .length) (sym (sized t c)) (x .0), x .1, x .2)
+
+-- behind the run of an entry
+module _ (t : ℕ) (c : Of run-lts.After-run t) where
+  abbrev at-target : Of run-lts.After-target2 t
+  at-target = target-of t (size-of t c)
+
+  abbrev at-stretch : Of run-lts.After-stretch t
+  at-stretch = stretch-of t (call-of t at-target)
+
+  abbrev start : Of run-lts.Start t
+  start = start-of t (loop-of t at-stretch)
+
+  still-stack : length (c .run .last .1 .1 .1 .1 .1 .0) ≡ length (start .args .stack .now)
+  still-stack = c .run .kept .1 .1 .1 .1 .1 .0 ∙ same-stack t at-stretch
+
+  still-out : length (c .run .last .1 .1 .1 .1 .1 .1 .0) ≡ length (start .args .out .now)
+  still-out = c .run .kept .1 .1 .1 .1 .1 .1 .0 ∙ same-out t at-stretch
+
+  back : c .run .result .how ≡ Back
+      → let args = start .args in
+      Stands (args .cs .now) (args .globals .now) (args .locals .now) (args .by) (args .levels) (args .stack .now) (args .out .now) (args .s)
+      (c .run .last .1 .1 .1 .1 .1 .0) (c .run .last .1 .1 .1 .1 .1 .1 .0) (c .run .result .st) (call-of t at-target .stop2 .given .0 .0)
+  back e =
+      arm-back _ _ _ _ _ _ _ _ _ _ _ _ _ _ (at-call t (call-of t at-target)) _ _ (aims t at-target) _ _ (sized t (size-of t c))
+      (c .before .before .before .enter .ensures) _ (at-target .before .before .before .before .choose .ensures) (c .run .result) _ _ (c .run .ensures) e
+
+  passed : (c .run .result .how ≡ Back → ⊥)
+      → let args = start .args in
+      Gives (args .cs .now) (args .globals .now) (args .locals .now) (args .by) (args .levels) (args .stack .now) (args .out .now) (args .s)
+      (c .run .result) (c .run .last .1 .1 .1 .1 .1 .0) (c .run .last .1 .1 .1 .1 .1 .1 .0)
+  passed n =
+      arm-passed _ _ _ _ _ _ _ _ _ _ _ _ _ _ (at-call t (call-of t at-target)) _ _ (aims t at-target) _ _ (sized t (size-of t c))
+      (c .before .before .before .enter .ensures) _ (at-target .before .before .before .before .choose .ensures) (c .run .result) _ _ (c .run .ensures) n
+
+-- ---- the needs
+
+-- src/charstring.rt:35:5
 run-loop-holds : (t : ℕ) → Of run-lts.Need-loop-holds t
 run-loop-holds t c =
     let args = c .before .before .before .before .before .args in (
       refl,
       refl,
       begins (args .cs .now) (args .globals .now) (args .locals .now) (args .by) (args .levels) (args .stack .now) (args .out .now) (args .s)
-          (λ k. c .before .before .before .before .shared-slice-known .given k .fits) (λ k. c .before .before .before .shared-slice-known2 .given k .fits) (λ k. c .before .before .shared-slice-known3 .given k .fits),
+          (λ k. c .before .before .before .before .shared-slice-known .given k .fits) (λ k. c .before .before .before .shared-slice-known2 .given k .fits)
+          (λ k. c .before .before .shared-slice-known3 .given k .fits),
     )
 
--- src/charstring.rt:35:13
+-- src/charstring.rt:36:13
 run-stretch-requires : (t : ℕ) → Of run-lts.Need-stretch-requires t
 run-stretch-requires t c κs = let h = turn-at t (c .before .before) in (roomy-now _ _ _ _ _ _ _ _ _ _ _ _ h, stands-on _ _ _ _ _ _ _ _ _ _ _ _ h)
 
--- src/charstring.rt:39:24
+-- src/charstring.rt:40:24
 run-enum-known-stop : (t : ℕ) → Of run-lts.Need-enum-known-stop t
 run-enum-known-stop t c = search needs
 
--- src/charstring.rt:40:17
+-- src/charstring.rt:41:17
 run-same-length : (t : ℕ) → Of run-lts.Need-same-length t
-run-same-length t c = c .before .before .before .before .before .before .before .before .stretch .kept .1 .1 .1 .1 .0 ∙ c .before .before .before .before .before .before .before .before .before .before .before .loop .inv .0
+run-same-length t c = same-stack t (c .before .before .before .before .before .before .before .before)
 
--- src/charstring.rt:40:17
+-- src/charstring.rt:41:17
 run-same-length-2 : (t : ℕ) → Of run-lts.Need-same-length-2 t
-run-same-length-2 t c = c .before .before .before .before .before .before .before .before .stretch .kept .1 .1 .1 .1 .1 .0 ∙ c .before .before .before .before .before .before .before .before .before .before .before .loop .inv .1
+run-same-length-2 t c = same-out t (c .before .before .before .before .before .before .before .before)
 
--- src/charstring.rt:40:17
+-- src/charstring.rt:41:17
 run-returns : (t : ℕ) → Of run-lts.Need-returns t
-run-returns t c = arm-done _ _ _ _ _ _ _ _ _ _ _ _ (turn-at t (c .before .before .before .before .before .before .before .before .before .before .before)) (c .before .before .before .before .before .before .before .before .stretch .result) _ _ (c .before .before .before .before .before .before .before .before .stretch .ensures) _ (c .before .stop .given .1)
+run-returns t c =
+    let at = c .before .before .before .before .before .before .before .before in
+    arm-done _ _ _ _ _ _ _ _ _ _ _ _ (turn-at t (loop-of t at)) (at .stretch .result) _ _ (at .stretch .ensures) _ (c .before .stop .given .1)
 
--- src/charstring.rt:42:24
+-- src/charstring.rt:43:24
 run-enum-known-stop-2 : (t : ℕ) → Of run-lts.Need-enum-known-stop-2 t
 run-enum-known-stop-2 t c = search needs
 
--- src/charstring.rt:43:27
+-- src/charstring.rt:44:27
 run-sub-top : (t : ℕ) → Of run-lts.Need-sub-top t
-run-sub-top t c = let b = at-call t (c .before .before) in let n = safe _ _ _ _ _ _ _ _ _ _ _ _ _ _ b in omega (arith, n .some)
+run-sub-top t c = omega (arith, numbers t (c .before .before) .some)
 
--- src/charstring.rt:44:32
+-- src/charstring.rt:45:32
 run-mul-unpack : (t : ℕ) → Of run-lts.Need-mul-unpack t
-run-mul-unpack t c = let b = at-call t (c .before .before) in let n = safe _ _ _ _ _ _ _ _ _ _ _ _ _ _ b in omega (arith, n .numbers, n .some)
+run-mul-unpack t c = let n = numbers t (c .before .before) in omega (arith, n .numbers, n .some)
 
--- src/charstring.rt:44:32
+-- src/charstring.rt:45:32
 run-slice-read-unpack : (t : ℕ) → Of run-lts.Need-slice-read-unpack t
-run-slice-read-unpack t c = let b = at-call t (c .before .before .before) in let n = safe _ _ _ _ _ _ _ _ _ _ _ _ _ _ b in omega (arith, n .numbers, n .some)
+run-slice-read-unpack t c = let n = numbers t (c .before .before .before) in omega (arith, n .numbers, n .some)
 
--- src/charstring.rt:44:21
+-- src/charstring.rt:45:21
 run-unpack-requires : (t : ℕ) → Of run-lts.Need-unpack-requires t
 run-unpack-requires t c κs = tt
 
--- src/charstring.rt:45:21
+-- src/charstring.rt:47:21
 run-choose-requires : (t : ℕ) → Of run-lts.Need-choose-requires t
 run-choose-requires t c κs = tt
 
--- src/charstring.rt:46:40
+-- src/charstring.rt:49:21
 run-choose-count-requires : (t : ℕ) → Of run-lts.Need-choose-count-requires t
 run-choose-count-requires t c κs = tt
 
--- src/charstring.rt:46:21
+-- src/charstring.rt:47:21
 run-aim-requires : (t : ℕ) → Of run-lts.Need-aim-requires t
 run-aim-requires t c κs = tt
 
--- src/charstring.rt:48:32
+-- src/charstring.rt:56:32
 run-enum-known-target : (t : ℕ) → Of run-lts.Need-enum-known-target t
 run-enum-known-target t c = search needs
 
--- src/charstring.rt:49:25
+-- src/charstring.rt:57:25
 run-same-length-3 : (t : ℕ) → Of run-lts.Need-same-length-3 t
-run-same-length-3 t c = c .before .before .before .before .before .before .before .before .before .before .before .before .before .before .before .before .before .stretch .kept .1 .1 .1 .1 .0 ∙ c .before .before .before .before .before .before .before .before .before .before .before .before .before .before .before .before .before .before .before .before .loop .inv .0
+run-same-length-3 t c = same-stack t (stretch-of t (c .before .before .before .before .before .before .before .before .before .before))
 
--- src/charstring.rt:49:25
+-- src/charstring.rt:57:25
 run-same-length-4 : (t : ℕ) → Of run-lts.Need-same-length-4 t
-run-same-length-4 t c = c .before .before .before .before .before .before .before .before .before .before .before .before .before .before .before .before .before .stretch .kept .1 .1 .1 .1 .1 .0 ∙ c .before .before .before .before .before .before .before .before .before .before .before .before .before .before .before .before .before .before .before .before .loop .inv .1
+run-same-length-4 t c = same-out t (stretch-of t (c .before .before .before .before .before .before .before .before .before .before))
 
--- src/charstring.rt:49:25
+-- src/charstring.rt:57:25
 run-returns-2 : (t : ℕ) → Of run-lts.Need-returns-2 t
-run-returns-2 t c = arm-no _ _ _ _ _ _ _ _ _ _ _ _ _ _ (at-call t (c .before .before .before .before .before .before .before .before .before .before)) (c .before .target .given .0 .0) (aims-at _ _ _ _ _ _ _ _ _ _ _ (c .before .before .before .before .before .choose .ensures) (c .before .before .before .before .choose-count .ensures) (c .before .before .before .before .before .before .unpack .ensures) (c .before .target .given .1) (c .before .before .before .aim .ensures .0))
+run-returns-2 t c =
+    let at-aim = c .before .before .before in
+    let at-count = at-aim .before in
+    let at-choose = at-count .before in
+    let e =
+    aims-at _ _ _ _ _ _ _ _ _ _ _ (at-choose .choose .ensures) (at-count .choose-count .ensures) (at-choose .before .unpack .ensures)
+    (c .before .target .given .1) (at-aim .aim .ensures .0) in
+    let b = at-call t (c .before .before .before .before .before .before .before .before .before .before) in
+    arm-no _ _ _ _ _ _ _ _ _ _ _ _ _ _ b (c .before .target .given .0 .0) e
 
--- src/charstring.rt:54:35
+-- src/charstring.rt:62:35
 run-enum-known-target-2 : (t : ℕ) → Of run-lts.Need-enum-known-target-2 t
 run-enum-known-target-2 t c = search needs
 
--- src/charstring.rt:55:36
+-- src/charstring.rt:63:36
 run-sub-body : (t : ℕ) → Of run-lts.Need-sub-body t
 run-sub-body t c = inside t (c .before) .0
 
--- src/charstring.rt:55:36
+-- src/charstring.rt:63:36
 run-part-body-start : (t : ℕ) → Of run-lts.Need-part-body-start t
 run-part-body-start t c = inside t (c .before) .0
 
--- src/charstring.rt:55:36
+-- src/charstring.rt:63:36
 run-part-body-end : (t : ℕ) → Of run-lts.Need-part-body-end t
 run-part-body-end t c = inside t (c .before) .1
 
--- src/charstring.rt:56:49
+-- src/charstring.rt:64:49
 run-size-of-requires : (t : ℕ) → Of run-lts.Need-size-of-requires t
 run-size-of-requires t c κs = tt
 
--- src/charstring.rt:56:29
+-- src/charstring.rt:64:29
 run-enter-requires : (t : ℕ) → Of run-lts.Need-enter-requires t
-run-enter-requires t c κs = let b = at-call t (c .before .before .before .before .before .before .before .before .before .before .before .before) in let n = safe _ _ _ _ _ _ _ _ _ _ _ _ _ _ b in let e = aims t (c .before .before .before) in let x = index-there _ _ _ _ _ _ _ _ _ _ _ _ _ _ b _ _ e in (n .some, x .1, few-tokens _ _ (n .begun) (omega (arith, c .before .before .before .before .before .before .before .before .before .before .before .before .before .before .before .before .before .before .before .before .before .before .before .before .before .before .before .before .good)), subst (λ (m : ℕ). m ≤ c .before .before .before .before .before .before .before .before .before .before .before .before .before .before .before .before .before .before .before .stretch .result .st .length) (sym (c .size-of .ensures ∙ ap (λ (o : Operand). length (spelling charstringRows o)) (c .before .before .before .before .before .before .before .before .unpack .ensures))) (x .0))
+run-enter-requires t c κs =
+    let call = call-of t (target-of t c) in
+    let n = numbers t call in
+    let x = there t c in
+    let good = start-of t (loop-of t (stretch-of t call)) .good in
+    (n .some, x .1, few-tokens _ _ (n .begun) (omega (arith, good)), x .0)
 
--- src/charstring.rt:57:83
+-- src/charstring.rt:65:83
 run-sub-run : (t : ℕ) → Of run-lts.Need-sub-run t
-run-sub-run t c = let b = at-call t (c .before .before .before .before .before .before .before .before .before .before .before .before .before .before .before) in let n = safe _ _ _ _ _ _ _ _ _ _ _ _ _ _ b in let e = aims t (c .before .before .before .before .before .before) in let x = index-there _ _ _ _ _ _ _ _ _ _ _ _ _ _ b _ _ e in let y = x .2 in omega arith
+run-sub-run t c = let y = there t (c .before .before .before) .2 in omega arith
 
--- src/charstring.rt:57:29
+-- src/charstring.rt:65:29
 run-run-requires : (t : ℕ) → Of run-lts.Need-run-requires t
-run-run-requires t c κs = let b = at-call t (c .before .before .before .before .before .before .before .before .before .before .before .before .before .before .before) in let n = safe _ _ _ _ _ _ _ _ _ _ _ _ _ _ b in let e = aims t (c .before .before .before .before .before .before) in let x = index-there _ _ _ _ _ _ _ _ _ _ _ _ _ _ b _ _ e in let y = x .2 in let z = c .before .before .before .before .before .before .before .before .before .before .before .before .before .before .before .before .before .before .before .before .before .before .before .before .before .before .before .before .before .before .before .pre .0 in (
+run-run-requires t c κs =
+    let at-size = c .before .before .before in
+    let at-target = target-of t at-size in
+    let call = call-of t at-target in
+    let b = at-call t call in
+    let y = there t at-size .2 in
+    let z = start-of t (loop-of t (stretch-of t call)) .pre .0 in (
       omega arith,
       (
         b .setting,
-        inside-sound _ _ _ _ _ _ _ _ _ _ _ _ _ _ b _ _ e _ _ (c .before .before .before .size-of .ensures ∙ ap (λ (o : Operand). length (spelling charstringRows o)) (c .before .before .before .before .before .before .before .before .before .before .before .unpack .ensures)) (c .before .before .enter .ensures),
+        inside-sound _ _ _ _ _ _ _ _ _ _ _ _ _ _ b _ _ (aims t at-target) _ _ (sized t at-size) (c .before .before .enter .ensures),
       ),
     )
 
--- src/charstring.rt:61:33
+-- src/charstring.rt:69:33
 run-enum-told : (t : ℕ) → Of run-lts.Need-enum-told t
 run-enum-told t c = search needs
 
--- src/charstring.rt:34:5
+-- src/charstring.rt:35:5
 run-loop-less : (t : ℕ) → Of run-lts.Need-loop-less t
-run-loop-less t c = let b = at-call t (c .before .before .before .before .before .before .before .before .before .before .before .before .before .before .before .before .before .before .before .before .before .before .before) in let n = safe _ _ _ _ _ _ _ _ _ _ _ _ _ _ b in omega (arith, n .ahead, n .inside)
+run-loop-less t c =
+    let n = numbers t (call-of t (target-of t (size-of t (c .before .before .before .before .before .before .before)))) in omega (arith, n .ahead, n .inside)
 
--- src/charstring.rt:34:5
+-- src/charstring.rt:35:5
 run-loop-again : (t : ℕ) → Of run-lts.Need-loop-again t
-run-loop-again t c = let b = at-call t (c .before .before .before .before .before .before .before .before .before .before .before .before .before .before .before .before .before .before .before .before .before .before .before) in (
-      c .before .before .before .before .before .before .before .run .kept .1 .1 .1 .1 .1 .0 ∙ c .before .before .before .before .before .before .before .before .before .before .before .before .before .before .before .before .before .before .before .before .before .before .before .before .before .before .before .before .before .before .stretch .kept .1 .1 .1 .1 .0 ∙ c .before .before .before .before .before .before .before .before .before .before .before .before .before .before .before .before .before .before .before .before .before .before .before .before .before .before .before .before .before .before .before .before .before .loop .inv .0,
-      c .before .before .before .before .before .before .before .run .kept .1 .1 .1 .1 .1 .1 .0 ∙ c .before .before .before .before .before .before .before .before .before .before .before .before .before .before .before .before .before .before .before .before .before .before .before .before .before .before .before .before .before .before .stretch .kept .1 .1 .1 .1 .1 .0 ∙ c .before .before .before .before .before .before .before .before .before .before .before .before .before .before .before .before .before .before .before .before .before .before .before .before .before .before .before .before .before .before .before .before .before .loop .inv .1,
-      arm-back _ _ _ _ _ _ _ _ _ _ _ _ _ _ b _ _ (aims t (c .before .before .before .before .before .before .before .before .before .before .before .before .before .before)) _ _ (c .before .before .before .before .before .before .before .before .before .before .before .size-of .ensures ∙ ap (λ (o : Operand). length (spelling charstringRows o)) (c .before .before .before .before .before .before .before .before .before .before .before .before .before .before .before .before .before .before .before .unpack .ensures)) (c .before .before .before .before .before .before .before .before .before .before .enter .ensures) _ (c .before .before .before .before .before .before .before .before .before .before .before .before .before .before .before .before .before .before .choose .ensures) (c .before .before .before .before .before .before .before .run .result) _ _ (c .before .before .before .before .before .before .before .run .ensures) (c .before .enum-told .given .1),
-    )
+run-loop-again t c =
+    let at = c .before .before .before .before .before .before .before in (still-stack t at, still-out t at, back t at (c .before .enum-told .given .1))
 
--- src/charstring.rt:65:33
+-- src/charstring.rt:73:33
 run-enum-told-2 : (t : ℕ) → Of run-lts.Need-enum-told-2 t
 run-enum-told-2 t c = search needs
 
--- src/charstring.rt:65:33
+-- src/charstring.rt:73:33
 run-same-length-5 : (t : ℕ) → Of run-lts.Need-same-length-5 t
-run-same-length-5 t c = c .before .before .before .before .before .before .run .kept .1 .1 .1 .1 .1 .0 ∙ c .before .before .before .before .before .before .before .before .before .before .before .before .before .before .before .before .before .before .before .before .before .before .before .before .before .before .before .before .before .stretch .kept .1 .1 .1 .1 .0 ∙ c .before .before .before .before .before .before .before .before .before .before .before .before .before .before .before .before .before .before .before .before .before .before .before .before .before .before .before .before .before .before .before .before .loop .inv .0
+run-same-length-5 t c = still-stack t (c .before .before .before .before .before .before)
 
--- src/charstring.rt:65:33
+-- src/charstring.rt:73:33
 run-same-length-6 : (t : ℕ) → Of run-lts.Need-same-length-6 t
-run-same-length-6 t c = c .before .before .before .before .before .before .run .kept .1 .1 .1 .1 .1 .1 .0 ∙ c .before .before .before .before .before .before .before .before .before .before .before .before .before .before .before .before .before .before .before .before .before .before .before .before .before .before .before .before .before .stretch .kept .1 .1 .1 .1 .1 .0 ∙ c .before .before .before .before .before .before .before .before .before .before .before .before .before .before .before .before .before .before .before .before .before .before .before .before .before .before .before .before .before .before .before .before .loop .inv .1
+run-same-length-6 t c = still-out t (c .before .before .before .before .before .before)
 
--- src/charstring.rt:65:33
+-- src/charstring.rt:73:33
 run-returns-3 : (t : ℕ) → Of run-lts.Need-returns-3 t
-run-returns-3 t c = arm-passed _ _ _ _ _ _ _ _ _ _ _ _ _ _ (at-call t (c .before .before .before .before .before .before .before .before .before .before .before .before .before .before .before .before .before .before .before .before .before .before)) _ _ (aims t (c .before .before .before .before .before .before .before .before .before .before .before .before .before)) _ _ (c .before .before .before .before .before .before .before .before .before .before .size-of .ensures ∙ ap (λ (o : Operand). length (spelling charstringRows o)) (c .before .before .before .before .before .before .before .before .before .before .before .before .before .before .before .before .before .before .unpack .ensures)) (c .before .before .before .before .before .before .before .before .before .enter .ensures) _ (c .before .before .before .before .before .before .before .before .before .before .before .before .before .before .before .before .before .choose .ensures) (c .before .before .before .before .before .before .run .result) _ _ (c .before .before .before .before .before .before .run .ensures)
-    (ended-goes _ (c .enum-told2 .given .1))
+run-returns-3 t c = passed t (c .before .before .before .before .before .before) (ended-goes _ (c .enum-told2 .given .1))
 
--- src/charstring.rt:68:33
+-- src/charstring.rt:76:33
 run-enum-told-3 : (t : ℕ) → Of run-lts.Need-enum-told-3 t
 run-enum-told-3 t c = search needs
 
--- src/charstring.rt:68:33
+-- src/charstring.rt:76:33
 run-same-length-7 : (t : ℕ) → Of run-lts.Need-same-length-7 t
-run-same-length-7 t c = c .before .before .before .before .before .before .run .kept .1 .1 .1 .1 .1 .0 ∙ c .before .before .before .before .before .before .before .before .before .before .before .before .before .before .before .before .before .before .before .before .before .before .before .before .before .before .before .before .before .stretch .kept .1 .1 .1 .1 .0 ∙ c .before .before .before .before .before .before .before .before .before .before .before .before .before .before .before .before .before .before .before .before .before .before .before .before .before .before .before .before .before .before .before .before .loop .inv .0
+run-same-length-7 t c = still-stack t (c .before .before .before .before .before .before)
 
--- src/charstring.rt:68:33
+-- src/charstring.rt:76:33
 run-same-length-8 : (t : ℕ) → Of run-lts.Need-same-length-8 t
-run-same-length-8 t c = c .before .before .before .before .before .before .run .kept .1 .1 .1 .1 .1 .1 .0 ∙ c .before .before .before .before .before .before .before .before .before .before .before .before .before .before .before .before .before .before .before .before .before .before .before .before .before .before .before .before .before .stretch .kept .1 .1 .1 .1 .1 .0 ∙ c .before .before .before .before .before .before .before .before .before .before .before .before .before .before .before .before .before .before .before .before .before .before .before .before .before .before .before .before .before .before .before .before .loop .inv .1
+run-same-length-8 t c = still-out t (c .before .before .before .before .before .before)
 
--- src/charstring.rt:68:33
+-- src/charstring.rt:76:33
 run-returns-4 : (t : ℕ) → Of run-lts.Need-returns-4 t
-run-returns-4 t c = arm-passed _ _ _ _ _ _ _ _ _ _ _ _ _ _ (at-call t (c .before .before .before .before .before .before .before .before .before .before .before .before .before .before .before .before .before .before .before .before .before .before)) _ _ (aims t (c .before .before .before .before .before .before .before .before .before .before .before .before .before)) _ _ (c .before .before .before .before .before .before .before .before .before .before .size-of .ensures ∙ ap (λ (o : Operand). length (spelling charstringRows o)) (c .before .before .before .before .before .before .before .before .before .before .before .before .before .before .before .before .before .before .unpack .ensures)) (c .before .before .before .before .before .before .before .before .before .enter .ensures) _ (c .before .before .before .before .before .before .before .before .before .before .before .before .before .before .before .before .before .choose .ensures) (c .before .before .before .before .before .before .run .result) _ _ (c .before .before .before .before .before .before .run .ensures)
-    (refused-goes _ _ (c .enum-told3 .given .1))
+run-returns-4 t c = passed t (c .before .before .before .before .before .before) (refused-goes _ _ (c .enum-told3 .given .1))
 
 pub +run-spec : {M : Type 1} → statement M
 +run-spec = close μ-run λ t. run-lts.spec (callees t)

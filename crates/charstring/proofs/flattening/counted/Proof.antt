@@ -1,6 +1,7 @@
 use native.Mathlib.Omega.{arith}
 use Rattle.reading.proofs.Refusal as refusal-type
-use Rattle.reading.specs.declared.Refusal.the-variants.{BudgetSpent, BytesLacking, TooManyOperands, UnknownOperator, NoIndex, IndexNotLast, NoEntry, TooDeep, TooManyHints, Composite}
+use Rattle.reading.specs.declared.Refusal.the-variants.{BudgetSpent, BytesLacking, TooManyOperands, UnknownOperator, NoIndex}
+use Rattle.reading.specs.declared.Refusal.the-variants.{IndexNotLast, NoEntry, TooDeep, TooManyHints, Composite}
 use Rattle.reading.specs.declared.Refusal.{Refusal}
 use Rattle.reading.specs.Answers.{numberOf}
 use Rattle.reading.specs.Reading.{tokensBy, stopped}

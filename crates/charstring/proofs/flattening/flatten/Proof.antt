@@ -8,17 +8,12 @@ use Rattle.index.specs.Formed.{Formation, formed, formation}
 use Rattle.index.specs.declared.list.Formed.{Formed}
 use Rattle.index.specs.declared.list.Formed.the-variants.{Yes, Lacking, BadSize, Emptied, Bad}
 use Rattle.index.proofs.list.Formed as formed-type
-use Rattle.reading.specs.Rules.{Rules}
+use Rattle.reading.specs.Rules.{Rules, rulesOf}
 use Rattle.reading.specs.Answers.{Flattening, listGate, flattening}
 use Rattle.reading.specs.AnswerLaws.{gate-open}
 use borrow.Author.Needs.{needs}
 use Rattle.charstring.proofs.flattening.flatten.Statement.{statement}
 use Rattle.charstring.proofs.flattening.flatten.Tie as tie
-use Rattle.charstring.proofs.flattening.flatten.Reads as reads
-use Rattle.charstring.proofs.flattening.flatten.Lts as lts
-use Rattle.charstring.proofs.flattening.write.Reads as write-reads
-use Rattle.index.proofs.well_formed.Reads as well-formed-reads
-use Rattle.reading.proofs.rules_of.Reads as rules-of-reads
 
 -- a list that is not well formed, by each of its reasons
 shut : (k : ℕ) (out : List ℕ) (f : Formation) (then : Outcome (Answer Flattening)) (r : Formed)
@@ -38,41 +33,58 @@ opened k out f then BadSize h e = absurd (miss (0 ∷ []) 2 tt h)
 opened k out f then Emptied h e = absurd (miss (0 ∷ []) 3 tt h)
 opened k out f then (Bad i) h e = absurd (miss (0 ∷ []) 4 tt h)
 
+-- both lists are well formed
+both : (out : List ℕ) (f g : Formation) (z then : Outcome (Answer Flattening)) (r q : Formed) → OneOf (0 ∷ []) (tagOf formed-type.the-type r)
+    → OneOf (0 ∷ []) (tagOf formed-type.the-type q) → formed r ≡ f → formed q ≡ g → z ≡ then → z ≡ listGate 1 out f (listGate 2 out g then)
+both out f g z then r q h k e d x = x ∙ opened 2 out g then q k d ∙ opened 1 out f _ r h e
+
 -- at the width that the rules have
 formed-by : (list : List ℕ) (x y : Rules) (r : Formed) → x ≡ y → formed r ≡ formation (x .width) list → formed r ≡ formation (y .width) list
 formed-by list x y r e q = q ∙ ap (λ (z : Rules). formation (z .width) list) e
 
--- src/flattening.rt:40:9
+globals-formed : (c : tie.After-well-formed)
+    → let args = c .before .before .before .before .before .before .args in
+    formed (c .well-formed .result) ≡ formation (rulesOf (args .profile) .width) (args .globals .now)
+globals-formed c = formed-by _ _ _ (c .well-formed .result) (c .before .rules-of .ensures) (c .well-formed .ensures)
+
+locals-formed : (c : tie.After-well-formed2)
+    → let args = c .before .before .before .before .before .before .before .before .before .args in
+    formed (c .well-formed2 .result) ≡ formation (rulesOf (args .profile) .width) (args .locals .now)
+locals-formed c = formed-by _ _ _ (c .well-formed2 .result) (c .before .before .before .before .rules-of .ensures) (c .well-formed2 .ensures)
+
+-- src/flattening.rt:41:9
 rules-of-requires : tie.Need-rules-of-requires
 rules-of-requires c κs = search needs
 
--- src/flattening.rt:42:26
+-- src/flattening.rt:43:26
 well-formed-requires : tie.Need-well-formed-requires
 well-formed-requires c κs = search needs
 
 enum-told : tie.Need-enum-told
 enum-told c = search needs
 
--- src/flattening.rt:43:9
+-- src/flattening.rt:44:9
 returns : tie.Need-returns
 unfolding flattening
-returns c = shut 1 _ _ _ (c .before .well-formed .result) (c .match .keys2) (formed-by _ _ _ (c .before .well-formed .result) (c .before .before .rules-of .ensures) (c .before .well-formed .ensures))
+returns c = shut 1 _ _ _ (c .before .well-formed .result) (c .match .keys2) (globals-formed (c .before))
 
--- src/flattening.rt:45:26
+-- src/flattening.rt:46:26
 well-formed-requires-2 : tie.Need-well-formed-requires-2
 well-formed-requires-2 c κs = search needs
 
 enum-told-2 : tie.Need-enum-told-2
 enum-told-2 c = search needs
 
--- src/flattening.rt:46:9
+-- src/flattening.rt:47:9
 returns-2 : tie.Need-returns-2
 unfolding flattening
 returns-2 c =
-    shut 2 _ _ _ (c .before .well-formed2 .result) (c .match2 .keys2) (formed-by _ _ _ (c .before .well-formed2 .result) (c .before .before .before .before .before .rules-of .ensures) (c .before .well-formed2 .ensures))
-    ∙ opened 1 _ _ _ (c .before .before .before .before .well-formed .result) (c .before .before .before .match .keys1) (formed-by _ _ _ (c .before .before .before .before .well-formed .result) (c .before .before .before .before .before .rules-of .ensures) (c .before .before .before .before .well-formed .ensures))
+    let at-match = c .before .before .before in
+    let globals = at-match .before in
+    shut 2 _ _ _ (c .before .well-formed2 .result) (c .match2 .keys2) (locals-formed (c .before))
+    ∙ opened 1 _ _ _ (globals .well-formed .result) (at-match .match .keys1) (globals-formed globals)
 
--- src/flattening.rt:48:5
+-- src/flattening.rt:49:5
 write-requires : tie.Need-write-requires
 write-requires c κs = search needs
 
@@ -84,8 +96,12 @@ same-length c = search needs
 returns-3 : tie.Need-returns-3
 unfolding flattening
 returns-3 c =
-    c .before .before .write .ensures ∙ opened 2 _ _ _ (c .before .before .before .before .before .before .well-formed2 .result) (c .before .before .before .before .before .match2 .keys1) (formed-by _ _ _ (c .before .before .before .before .before .before .well-formed2 .result) (c .before .before .before .before .before .before .before .before .before .before .rules-of .ensures) (c .before .before .before .before .before .before .well-formed2 .ensures))
-    ∙ opened 1 _ _ _ (c .before .before .before .before .before .before .before .before .before .well-formed .result) (c .before .before .before .before .before .before .before .before .match .keys1) (formed-by _ _ _ (c .before .before .before .before .before .before .before .before .before .well-formed .result) (c .before .before .before .before .before .before .before .before .before .before .rules-of .ensures) (c .before .before .before .before .before .before .before .before .before .well-formed .ensures))
+    let at-match2 = c .before .before .before .before .before in
+    let locals = at-match2 .before in
+    let at-match = locals .before .before in
+    let globals = at-match .before in
+    both _ _ _ _ _ (globals .well-formed .result) (locals .well-formed2 .result) (at-match .match .keys1) (at-match2 .match2 .keys1)
+    (globals-formed globals) (locals-formed locals) (c .before .before .write .ensures)
 
 pub flatten-spec : {M : Type 1} → statement M
 flatten-spec =

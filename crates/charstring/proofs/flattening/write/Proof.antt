@@ -6,7 +6,8 @@ use lib.Seq.{length-take-le}
 use types.Run.{OneOf, miss}
 use denote.Enum.Declared.{tagOf}
 use Rattle.number.specs.Answer.{leaving}
-use Rattle.reading.specs.Reading.{Run}
+use Rattle.reading.specs.Rules.{rulesOf}
+use Rattle.reading.specs.Reading.{Run, original}
 use Rattle.reading.specs.Answers.{flattened, verdict, outcome}
 use Rattle.reading.specs.declared.Flattened.{Flattened}
 use Rattle.reading.specs.declared.Flattened.the-variants.{Accepted, BadGlobals, BadLocals, Refused, NoRoom}
@@ -15,10 +16,6 @@ use Rattle.charstring.specs.VerdictLaws.{by-refusal, by-short, by-held, 
 use borrow.Author.Needs.{needs}
 use Rattle.charstring.proofs.flattening.write.Statement.{statement}
 use Rattle.charstring.proofs.flattening.write.Tie as tie
-use Rattle.charstring.proofs.flattening.write.Reads as reads
-use Rattle.charstring.proofs.flattening.write.Lts as lts
-use Rattle.charstring.proofs.flattening.draft.Reads as draft-reads
-use Rattle.charstring.proofs.flattening.keep.Reads as keep-reads
 
 abbrev Refusals : List ℕ
 Refusals = 1 ∷ 2 ∷ 3 ∷ 4 ∷ []
@@ -32,61 +29,76 @@ refused-so out x BadLocals k e = by-refusal out x _ _ e
 refused-so out x (Refused w t) k e = by-refusal out x _ _ e
 refused-so out x (NoRoom n t) k e = by-refusal out x _ _ e
 
--- src/flattening.rt:64:63
+-- an accepted verdict is the reading's
+accepted : (c : tie.After-verdict)
+    → let draft = c .before .before .before in
+    let args = draft .before .before .before .before .before .before .args in
+    flattened (Accepted (c .verdict .given .0 .0) (c .verdict .given .0 .1 .0))
+    ≡ verdict (original (rulesOf (args .profile)) (args .cs .now) (args .globals .now) (args .locals .now) (args .budget))
+accepted c = ap flattened (sym (c .verdict .given .1)) ∙ c .before .before .before .draft .ensures .0
+
+-- src/flattening.rt:66:63
 slice-aggregate-draft : tie.Need-slice-aggregate-draft
 slice-aggregate-draft c = search needs
 
--- src/flattening.rt:64:9
+-- src/flattening.rt:66:9
 draft-requires : tie.Need-draft-requires
 draft-requires c κs = search needs
 
--- src/flattening.rt:65:29
+-- src/flattening.rt:67:29
 enum-known-verdict : tie.Need-enum-known-verdict
 enum-known-verdict c = search needs
 
--- src/flattening.rt:66:9
+-- src/flattening.rt:68:9
 returns : tie.Need-returns
 returns c = refused-so _ _ (c .before .before .draft .result) (c .match .keys2) (c .before .before .draft .ensures .0)
 
--- src/flattening.rt:69:9
+-- src/flattening.rt:71:9
 returns-2 : tie.Need-returns-2
-returns-2 c = by-short _ _ _ _ (ap flattened (sym (c .before .before .verdict .given .1)) ∙ c .before .before .before .before .before .draft .ensures .0) (c .if1 .taken)
+returns-2 c = by-short _ _ _ _ (accepted (c .before .before)) (c .if1 .taken)
 
--- src/flattening.rt:72:22
+-- src/flattening.rt:74:22
 slice-aggregate-keep : tie.Need-slice-aggregate-keep
 slice-aggregate-keep c = search needs
 
--- src/flattening.rt:72:9
+-- src/flattening.rt:74:9
 keep-requires : tie.Need-keep-requires
 keep-requires c κs = search needs
 
--- src/flattening.rt:74:53
+-- src/flattening.rt:76:53
 slice-relend-prefix-draft : tie.Need-slice-relend-prefix-draft
 slice-relend-prefix-draft c = search needs
 
--- src/flattening.rt:74:53
+-- src/flattening.rt:76:53
 slice-aggregate-draft-2 : tie.Need-slice-aggregate-draft-2
 slice-aggregate-draft-2 c = sym (length-take-le _ _ (c .before .before .if1 .left))
 
--- src/flattening.rt:74:9
+-- src/flattening.rt:76:9
 draft-requires-2 : tie.Need-draft-requires-2
 draft-requires-2 c κs = search needs
 
--- src/flattening.rt:53:1
+-- src/flattening.rt:54:1
 same-length : tie.Need-same-length
 same-length c = search needs
 
--- src/flattening.rt:53:1
+-- src/flattening.rt:54:1
 returns-3 : tie.Need-returns-3
-returns-3 c = by-held _ _ _ _ (ap flattened (sym (c .before .before .before .before .before .before .before .before .verdict .given .1)) ∙ c .before .before .before .before .before .before .before .before .before .before .before .draft .ensures .0) (c .before .before .before .before .before .before .if1 .left) _ (c .before .before .before .before .before .before .before .before .before .before .before .draft .ensures .1) (omega arith) _ (c .before .before .keep .ensures)
+returns-3 c =
+    let at-if = c .before .before .before .before .before .before in
+    let at-verdict = at-if .before .before in
+    by-held _ _ _ _ (accepted at-verdict) (at-if .if1 .left) _ (at-verdict .before .before .before .draft .ensures .1) (omega arith) _
+    (c .before .before .keep .ensures)
 
--- src/flattening.rt:53:1
+-- src/flattening.rt:54:1
 same-length-2 : tie.Need-same-length-2
 same-length-2 c = search needs
 
--- src/flattening.rt:53:1
+-- src/flattening.rt:54:1
 returns-4 : tie.Need-returns-4
-returns-4 c = by-part _ _ _ _ (ap flattened (sym (c .before .before .before .before .before .before .before .verdict .given .1)) ∙ c .before .before .before .before .before .before .before .before .before .before .draft .ensures .0) (c .before .before .before .before .before .if1 .left) _ (c .before .before .draft2 .ensures .1) (c .before .before .draft2 .kept .1 .1 .1 .1 .1 .0)
+returns-4 c =
+    let at-if = c .before .before .before .before .before in
+    let again = c .before .before .draft2 in
+    by-part _ _ _ _ (accepted (at-if .before .before)) (at-if .if1 .left) _ (again .ensures .1) (again .kept .1 .1 .1 .1 .1 .0)
 
 pub write-spec : {M : Type 1} → statement M
 write-spec =

@@ -7,26 +7,12 @@ use borrow.Author.Needs.{needs}
 use Rattle.charstring.specs.StretchLaws.{Stands, Turn, Head, headed, asks, safe, few-tokens, few-operands, operator-two}
 use Rattle.charstring.specs.StretchLaws.{arm-push, arm-short, arm-clear, arm-mask, arm-out, arm-bad, arm-return, arm-end, arm-call}
 use Rattle.charstring.specs.declared.state.State.{State}
+use Rattle.charstring.specs.declared.look.Request.{Request}
 use Rattle.charstring.specs.declared.look.Request.the-variants.{Push, Clears, Masks, Calls, Returns, Ends, Out as Empty, Bad, Short}
 use Rattle.charstring.specs.declared.stretch.Ending.the-variants.{Back, Ended}
 use Rattle.charstring.specs.declared.stretch.Stop.the-variants.{Done as Finished}
 use Rattle.charstring.proofs.stretch.stretch.Statement.{statement}
 use Rattle.charstring.proofs.stretch.stretch.Tie as tie
-use Rattle.charstring.proofs.stretch.stretch.Reads as reads
-use Rattle.charstring.proofs.stretch.stretch.Lts as lts
-use Rattle.charstring.proofs.argstack.pack.Reads as pack-reads
-use Rattle.charstring.proofs.argstack.pack_short.Reads as pack-short-reads
-use Rattle.charstring.proofs.look.look.Reads as look-reads
-use Rattle.charstring.proofs.state.clear.Reads as clear-reads
-use Rattle.charstring.proofs.state.finish.Reads as finish-reads
-use Rattle.charstring.proofs.state.go_back.Reads as go-back-reads
-use Rattle.charstring.proofs.state.mask.Reads as mask-reads
-use Rattle.charstring.proofs.state.push.Reads as push-reads
-use Rattle.charstring.proofs.store.put_bytes.Reads as put-bytes-reads
-use Rattle.charstring.proofs.store.put_operand.Reads as put-operand-reads
-use Rattle.charstring.proofs.store.put_operator.Reads as put-operator-reads
-use Rattle.charstring.proofs.store.put_two.Reads as put-two-reads
-use Rattle.charstring.proofs.stretch.ended.Reads as ended-reads
 
 abbrev Inv-loop : tie.InvT-loop
 Inv-loop cs from by stack₀ out₀ st₀ i₀ stack out st i =
@@ -42,11 +28,19 @@ turn-at c =
     let start = c .before .before .before .before in
     record { same-stack = c .loop .inv .0; roomy = start .pre .0; standing = start .pre .1; further = c .loop .inv .2; stands = c .loop .inv .3 }
 
--- what is known once the token was looked at
-head : (c : tie.After-look Inv-loop μ-loop) → let args = c .before .before .before .before .before .args in let loop = c .before .loop in
-    Head (args .cs .now) (args .by) (args .stack .now) (args .out .now) (args .s) (args .from) (loop .stack) (loop .out) (loop .st) (loop .i)
-    (c .look .result)
-head c = headed _ _ _ _ _ _ _ _ _ _ _ (turn-at (c .before)) (c .look .ensures)
+-- an arm: where the loop is, and what the token asks for
+abbrev Arm : tie.At-loop Inv-loop μ-loop → Request → Type 0
+Arm c x =
+    let args = c .before .before .before .before .args in
+    Head (args .cs .now) (args .by) (args .stack .now) (args .out .now) (args .s) (args .from) (c .loop .stack) (c .loop .out) (c .loop .st) (c .loop .i) x
+
+arm : (c : tie.After-look Inv-loop μ-loop) (x : Request) → c .look .result ≡ x → Arm (c .before) x
+arm c x e =
+    let h = turn-at (c .before) in
+    headed _ _ _ _ _ _ _ _ _ _ x h (asks _ _ _ _ _ _ _ _ _ _ _ (headed _ _ _ _ _ _ _ _ _ _ _ h (c .look .ensures)) x e)
+
+small-budget : (c : tie.At-loop Inv-loop μ-loop) → c .before .before .before .before .args .by .budget ≤ 4294967295
+small-budget c = let x = c .before .before .before .before .good in omega (arith, x)
 
 -- src/stretch.rt:60:5
 loop-holds : tie.Need-loop-holds Inv-loop μ-loop
@@ -56,13 +50,18 @@ loop-holds c = (refl, refl, le-refl _, λ g x. x)
 look-requires : tie.Need-look-requires Inv-loop μ-loop
 look-requires c κs = let f = safe _ _ _ _ _ _ _ _ _ _ (turn-at c) in (f .hinted, omega arith)
 
+-- ---- a short number
+
+short : (c : tie.After-next Inv-loop μ-loop) → let n = c .next .given .0 in Arm (c .before .before .before) (Short (n .0) (n .1 .0) (n .1 .1 .0))
+short c = arm (c .before .before) _ (c .next .given .1)
+
 -- src/stretch.rt:63:28
 enum-known-next : tie.Need-enum-known-next Inv-loop μ-loop
 enum-known-next c = search needs
 
 -- src/stretch.rt:64:17
 put-two-requires : tie.Need-put-two-requires Inv-loop μ-loop
-put-two-requires c κs = let d = head (c .before .before .before .before) in let f = asks _ _ _ _ _ _ _ _ _ _ _ d (Short _ _ _) (c .before .before .next .given .1) in omega (arith, d .numbers, f .0 .0)
+put-two-requires c κs = let a = short (c .before .before) in omega (arith, a .numbers, a .looked .0 .0)
 
 -- src/stretch.rt:66:32
 pack-short-requires : tie.Need-pack-short-requires Inv-loop μ-loop
@@ -70,36 +69,57 @@ pack-short-requires c κs = tt
 
 -- src/stretch.rt:66:17
 mul-stack : tie.Need-mul-stack Inv-loop μ-loop
-mul-stack c = let d = head (c .before .before .before .before .before .before .before .before) in let f = asks _ _ _ _ _ _ _ _ _ _ _ d (Short _ _ _) (c .before .before .before .before .before .before .next .given .1) in omega (arith, d .numbers, d .fits, f .0 .2)
+mul-stack c =
+    let a = short (c .before .before .before .before .before .before) in omega (arith, a .numbers, a .fits, a .looked .0 .2)
 
 -- src/stretch.rt:66:17
 slice-write-stack : tie.Need-slice-write-stack Inv-loop μ-loop
-slice-write-stack c = let d = head (c .before .before .before .before .before .before .before .before) in let f = asks _ _ _ _ _ _ _ _ _ _ _ d (Short _ _ _) (c .before .before .before .before .before .before .next .given .1) in omega (arith, d .numbers, d .fits, f .0 .2)
+slice-write-stack c =
+    let a = short (c .before .before .before .before .before .before) in omega (arith, a .numbers, a .fits, a .looked .0 .2)
 
 -- src/stretch.rt:67:44
 sub-push : tie.Need-sub-push Inv-loop μ-loop
-sub-push c = let d = head (c .before .before .before .before .before .before .before .before) in let f = asks _ _ _ _ _ _ _ _ _ _ _ d (Short _ _ _) (c .before .before .before .before .before .before .next .given .1) in omega (arith, f .0 .0)
+sub-push c =
+    let a = short (c .before .before .before .before .before .before) in omega (arith, a .looked .0 .0)
 
 -- src/stretch.rt:67:31
 add-push : tie.Need-add-push Inv-loop μ-loop
-add-push c = let d = head (c .before .before .before .before .before .before .before .before .before) in let f = asks _ _ _ _ _ _ _ _ _ _ _ d (Short _ _ _) (c .before .before .before .before .before .before .before .next .given .1) in omega (arith, d .numbers, f .0 .0, c .before .before .before .before .before .before .before .before .before .before .before .before .before .before .good)
+add-push c =
+    let at-arm = c .before .before .before .before .before .before .before in
+    let a = short at-arm in omega (arith, a .numbers, a .looked .0 .0, small-budget (at-arm .before .before .before))
 
 -- src/stretch.rt:67:17
 push-requires : tie.Need-push-requires Inv-loop μ-loop
-push-requires c κs = let d = head (c .before .before .before .before .before .before .before .before .before) in let f = asks _ _ _ _ _ _ _ _ _ _ _ d (Short _ _ _) (c .before .before .before .before .before .before .before .next .given .1) in (few-operands _ _ (d .numbers .room) (d .numbers .few), d .numbers .tailed, few-tokens _ _ (f .0 .0 .within) (omega (arith, c .before .before .before .before .before .before .before .before .before .before .before .before .before .before .good)))
+push-requires c κs =
+    let at-arm = c .before .before .before .before .before .before .before in
+    let a = short at-arm in
+    let few = few-tokens _ _ (a .looked .0 .0 .within) (small-budget (at-arm .before .before .before)) in
+    (few-operands _ _ (a .numbers .room) (a .numbers .few), a .numbers .tailed, few)
 
 -- src/stretch.rt:60:5
 loop-less : tie.Need-loop-less Inv-loop μ-loop
-loop-less c = let d = head (c .before .before .before .before .before .before .before .before .before .before) in let f = asks _ _ _ _ _ _ _ _ _ _ _ d (Short _ _ _) (c .before .before .before .before .before .before .before .before .next .given .1) in omega (arith, f .0 .0)
+loop-less c =
+    let a = short (c .before .before .before .before .before .before .before .before) in omega (arith, a .looked .0 .0)
 
 -- src/stretch.rt:60:5
 loop-again : tie.Need-loop-again Inv-loop μ-loop
-loop-again c = let d = head (c .before .before .before .before .before .before .before .before .before .before) in let f = asks _ _ _ _ _ _ _ _ _ _ _ d (Short _ _ _) (c .before .before .before .before .before .before .before .before .next .given .1) in (
-      length-set {A = ℕ} (c .before .before .before .before .before .before .before .before .before .before .before .loop .stack) (c .before .before .before .before .before .before .before .before .before .before .before .loop .st .count) (c .before .before .pack-short .result) ∙ c .before .before .before .before .before .before .before .before .before .before .before .loop .inv .0,
-      c .before .before .before .before .before .put-two .kept .0 ∙ c .before .before .before .before .before .before .before .before .before .before .before .loop .inv .1,
-      omega (arith, d .turn .further, f .0 .0),
-      arm-short _ _ _ _ _ _ _ _ _ _ (d .turn) _ _ _ (c .before .before .pack-short .result) _ _ _ f (c .before .before .pack-short .ensures) (c .before .before .before .before .before .put-two .ensures .1) refl (c .push .ensures),
+loop-again c =
+    let at-pack = c .before .before in
+    let at-put = at-pack .before .before .before in
+    let at-arm = at-put .before .before .before in
+    let at-loop = at-arm .before .before .before in
+    let a = short at-arm in
+    let w = at-pack .pack-short .result in (
+      length-set {A = ℕ} (at-loop .loop .stack) (at-loop .loop .st .count) w ∙ at-loop .loop .inv .0,
+      at-put .put-two .kept .0 ∙ at-loop .loop .inv .1,
+      omega (arith, a .turn .further, a .looked .0 .0),
+      arm-short _ _ _ _ _ _ _ _ _ _ (a .turn) _ _ _ w _ _ _ (a .looked) (at-pack .pack-short .ensures) (at-put .put-two .ensures .1) refl (c .push .ensures),
     )
+
+-- ---- an operator that clears the stack
+
+clears : (c : tie.After-next2 Inv-loop μ-loop) → let n = c .next2 .given .0 in Arm (c .before .before .before) (Clears (n .0) (n .1 .0) (n .1 .1 .0))
+clears c = arm (c .before .before) _ (c .next2 .given .1)
 
 -- src/stretch.rt:70:29
 enum-known-next-2 : tie.Need-enum-known-next-2 Inv-loop μ-loop
@@ -107,24 +127,37 @@ enum-known-next-2 c = search needs
 
 -- src/stretch.rt:71:21
 put-operator-requires : tie.Need-put-operator-requires Inv-loop μ-loop
-put-operator-requires c κs = let d = head (c .before .before .before .before) in let f = asks _ _ _ _ _ _ _ _ _ _ _ d (Clears _ _ _) (c .before .before .next2 .given .1) in omega (arith, d .numbers, f .0 .begun)
+put-operator-requires c κs = let a = clears (c .before .before) in omega (arith, a .numbers, a .looked .0 .begun)
 
 -- src/stretch.rt:72:17
 clear-requires : tie.Need-clear-requires Inv-loop μ-loop
-clear-requires c κs = let d = head (c .before .before .before .before .before .before .before) in let f = asks _ _ _ _ _ _ _ _ _ _ _ d (Clears _ _ _) (c .before .before .before .before .before .next2 .given .1) in few-tokens _ _ (f .0 .begun .within) (omega arith)
+clear-requires c κs =
+    let at-arm = c .before .before .before .before .before in
+    few-tokens _ _ (clears at-arm .looked .0 .begun .within) (small-budget (at-arm .before .before .before))
 
 -- src/stretch.rt:60:5
 loop-less-2 : tie.Need-loop-less-2 Inv-loop μ-loop
-loop-less-2 c = let d = head (c .before .before .before .before .before .before .before .before) in let f = asks _ _ _ _ _ _ _ _ _ _ _ d (Clears _ _ _) (c .before .before .before .before .before .before .next2 .given .1) in omega (arith, f .0 .begun)
+loop-less-2 c =
+    let a = clears (c .before .before .before .before .before .before) in omega (arith, a .looked .0 .begun)
 
 -- src/stretch.rt:60:5
 loop-again-2 : tie.Need-loop-again-2 Inv-loop μ-loop
-loop-again-2 c = let d = head (c .before .before .before .before .before .before .before .before) in let f = asks _ _ _ _ _ _ _ _ _ _ _ d (Clears _ _ _) (c .before .before .before .before .before .before .next2 .given .1) in (
-      c .before .before .before .before .before .before .before .before .before .loop .inv .0,
-      c .before .before .before .put-operator .kept .0 ∙ c .before .before .before .before .before .before .before .before .before .loop .inv .1,
-      omega (arith, d .turn .further, f .0 .begun),
-      arm-clear _ _ _ _ _ _ _ _ _ _ (d .turn) _ _ _ _ _ _ f (c .before .before .before .put-operator .ensures .1) (c .before .before .before .put-operator .ensures .0) (c .clear .ensures),
+loop-again-2 c =
+    let at-put = c .before .before .before in
+    let at-arm = at-put .before .before .before in
+    let at-loop = at-arm .before .before .before in
+    let a = clears at-arm in
+    let p = at-put .put-operator in (
+      at-loop .loop .inv .0,
+      p .kept .0 ∙ at-loop .loop .inv .1,
+      omega (arith, a .turn .further, a .looked .0 .begun),
+      arm-clear _ _ _ _ _ _ _ _ _ _ (a .turn) _ _ _ _ _ _ (a .looked) (p .ensures .1) (p .ensures .0) (c .clear .ensures),
     )
+
+-- ---- any other number
+
+pushes : (c : tie.After-next3 Inv-loop μ-loop) → let n = c .next3 .given .0 in Arm (c .before .before .before) (Push (n .0) (n .1 .0))
+pushes c = arm (c .before .before) _ (c .next3 .given .1)
 
 -- src/stretch.rt:75:27
 enum-known-next-3 : tie.Need-enum-known-next-3 Inv-loop μ-loop
@@ -132,7 +165,7 @@ enum-known-next-3 c = search needs
 
 -- src/stretch.rt:76:21
 put-operand-requires : tie.Need-put-operand-requires Inv-loop μ-loop
-put-operand-requires c κs = let d = head (c .before .before .before .before) in let f = asks _ _ _ _ _ _ _ _ _ _ _ d (Push _ _) (c .before .before .next3 .given .1) in omega (arith, d .numbers, f .0)
+put-operand-requires c κs = let a = pushes (c .before .before) in omega (arith, a .numbers, a .looked .0)
 
 -- src/stretch.rt:78:32
 pack-requires : tie.Need-pack-requires Inv-loop μ-loop
@@ -140,28 +173,48 @@ pack-requires c κs = tt
 
 -- src/stretch.rt:78:17
 mul-stack-2 : tie.Need-mul-stack-2 Inv-loop μ-loop
-mul-stack-2 c = let d = head (c .before .before .before .before .before .before .before .before) in let f = asks _ _ _ _ _ _ _ _ _ _ _ d (Push _ _) (c .before .before .before .before .before .before .next3 .given .1) in omega (arith, d .numbers, d .fits, f .2)
+mul-stack-2 c =
+    let a = pushes (c .before .before .before .before .before .before) in omega (arith, a .numbers, a .fits, a .looked .2)
 
 -- src/stretch.rt:78:17
 slice-write-stack-2 : tie.Need-slice-write-stack-2 Inv-loop μ-loop
-slice-write-stack-2 c = let d = head (c .before .before .before .before .before .before .before .before) in let f = asks _ _ _ _ _ _ _ _ _ _ _ d (Push _ _) (c .before .before .before .before .before .before .next3 .given .1) in omega (arith, d .numbers, d .fits, f .2)
+slice-write-stack-2 c =
+    let a = pushes (c .before .before .before .before .before .before) in omega (arith, a .numbers, a .fits, a .looked .2)
 
 -- src/stretch.rt:79:17
 push-requires-2 : tie.Need-push-requires-2 Inv-loop μ-loop
-push-requires-2 c κs = let d = head (c .before .before .before .before .before .before .before .before) in let f = asks _ _ _ _ _ _ _ _ _ _ _ d (Push _ _) (c .before .before .before .before .before .before .next3 .given .1) in (few-operands _ _ (d .numbers .room) (d .numbers .few), d .numbers .tailed, few-tokens _ _ (f .0 .within) (omega arith))
+push-requires-2 c κs =
+    let at-arm = c .before .before .before .before .before .before in
+    let a = pushes at-arm in
+    let few = few-tokens _ _ (a .looked .0 .within) (small-budget (at-arm .before .before .before)) in
+    (few-operands _ _ (a .numbers .room) (a .numbers .few), a .numbers .tailed, few)
 
 -- src/stretch.rt:60:5
 loop-less-3 : tie.Need-loop-less-3 Inv-loop μ-loop
-loop-less-3 c = let d = head (c .before .before .before .before .before .before .before .before .before) in let f = asks _ _ _ _ _ _ _ _ _ _ _ d (Push _ _) (c .before .before .before .before .before .before .before .next3 .given .1) in omega (arith, f .0)
+loop-less-3 c =
+    let a = pushes (c .before .before .before .before .before .before .before) in omega (arith, a .looked .0)
 
 -- src/stretch.rt:60:5
 loop-again-3 : tie.Need-loop-again-3 Inv-loop μ-loop
-loop-again-3 c = let d = head (c .before .before .before .before .before .before .before .before .before) in let f = asks _ _ _ _ _ _ _ _ _ _ _ d (Push _ _) (c .before .before .before .before .before .before .before .next3 .given .1) in (
-      length-set {A = ℕ} (c .before .before .before .before .before .before .before .before .before .before .loop .stack) (c .before .before .before .before .before .before .before .before .before .before .loop .st .count) (c .before .pack .result) ∙ c .before .before .before .before .before .before .before .before .before .before .loop .inv .0,
-      c .before .before .before .before .put-operand .kept .0 ∙ c .before .before .before .before .before .before .before .before .before .before .loop .inv .1,
-      omega (arith, d .turn .further, f .0),
-      arm-push _ _ _ _ _ _ _ _ _ _ (d .turn) _ _ (c .before .pack .result) _ _ _ f (c .before .pack .ensures) (c .before .before .before .before .put-operand .ensures .1) (c .before .before .before .before .put-operand .ensures .0) (c .push2 .ensures),
+loop-again-3 c =
+    let at-pack = c .before in
+    let at-put = at-pack .before .before .before in
+    let at-arm = at-put .before .before .before in
+    let at-loop = at-arm .before .before .before in
+    let a = pushes at-arm in
+    let w = at-pack .pack .result in
+    let p = at-put .put-operand in (
+      length-set {A = ℕ} (at-loop .loop .stack) (at-loop .loop .st .count) w ∙ at-loop .loop .inv .0,
+      p .kept .0 ∙ at-loop .loop .inv .1,
+      omega (arith, a .turn .further, a .looked .0),
+      arm-push _ _ _ _ _ _ _ _ _ _ (a .turn) _ _ w _ _ _ (a .looked) (at-pack .pack .ensures) (p .ensures .1) (p .ensures .0) (c .push2 .ensures),
     )
+
+-- ---- a mask
+
+masks : (c : tie.After-a Inv-loop μ-loop) → let n = c .a .given .0 in
+    Arm (c .before .before .before) (Masks (n .0) (n .1 .0) (n .1 .1 .0) (n .1 .1 .1 .0) (n .1 .1 .1 .1 .0))
+masks c = arm (c .before .before) _ (c .a .given .1)
 
 -- src/stretch.rt:82:28
 enum-known-a : tie.Need-enum-known-a Inv-loop μ-loop
@@ -169,45 +222,62 @@ enum-known-a c = search needs
 
 -- src/stretch.rt:83:21
 put-operator-requires-2 : tie.Need-put-operator-requires-2 Inv-loop μ-loop
-put-operator-requires-2 c κs = let d = head (c .before .before .before .before) in let f = asks _ _ _ _ _ _ _ _ _ _ _ d (Masks _ _ _ _ _) (c .before .before .a .given .1) in omega (arith, d .numbers, f .0 .begun)
+put-operator-requires-2 c κs = let a = masks (c .before .before) in omega (arith, a .numbers, a .looked .0 .begun)
 
 -- src/stretch.rt:84:53
 sub-put-bytes : tie.Need-sub-put-bytes Inv-loop μ-loop
-sub-put-bytes c = let d = head (c .before .before .before .before .before .before .before .before) in let f = asks _ _ _ _ _ _ _ _ _ _ _ d (Masks _ _ _ _ _) (c .before .before .before .before .before .before .a .given .1) in f .3
+sub-put-bytes c = masks (c .before .before .before .before .before .before) .looked .3
 
 -- src/stretch.rt:84:53
 part-put-bytes-start : tie.Need-part-put-bytes-start Inv-loop μ-loop
-part-put-bytes-start c = let d = head (c .before .before .before .before .before .before .before .before) in let f = asks _ _ _ _ _ _ _ _ _ _ _ d (Masks _ _ _ _ _) (c .before .before .before .before .before .before .a .given .1) in f .3
+part-put-bytes-start c = masks (c .before .before .before .before .before .before) .looked .3
 
 -- src/stretch.rt:84:53
 part-put-bytes-end : tie.Need-part-put-bytes-end Inv-loop μ-loop
-part-put-bytes-end c = let d = head (c .before .before .before .before .before .before .before .before) in let f = asks _ _ _ _ _ _ _ _ _ _ _ d (Masks _ _ _ _ _) (c .before .before .before .before .before .before .a .given .1) in f .4
+part-put-bytes-end c = masks (c .before .before .before .before .before .before) .looked .4
 
 -- src/stretch.rt:84:21
 put-bytes-requires : tie.Need-put-bytes-requires Inv-loop μ-loop
-put-bytes-requires c κs = let d = head (c .before .before .before .before .before .before .before .before .before) in let f = asks _ _ _ _ _ _ _ _ _ _ _ d (Masks _ _ _ _ _) (c .before .before .before .before .before .before .before .a .given .1) in omega (arith, d .numbers, f .0 .begun, c .before .before .before .before .put-operator2 .ensures .0, operator-two (c .before .before .before .before .before .before .before .a .given .0 .1 .1 .1 .1 .0))
+put-bytes-requires c κs =
+    let at-put = c .before .before .before .before in
+    let at-arm = at-put .before .before .before in
+    let a = masks at-arm in
+    let few = small-budget (at-arm .before .before .before) in
+    omega (arith, a .numbers, a .looked .0 .begun, few, at-put .put-operator2 .ensures .0, operator-two (at-arm .a .given .0 .1 .1 .1 .1 .0))
 
 -- src/stretch.rt:85:45
 sub-mask : tie.Need-sub-mask Inv-loop μ-loop
-sub-mask c = let d = head (c .before .before .before .before .before .before .before .before .before .before .before .before) in let f = asks _ _ _ _ _ _ _ _ _ _ _ d (Masks _ _ _ _ _) (c .before .before .before .before .before .before .before .before .before .before .a .given .1) in f .3
+sub-mask c = masks (c .before .before .before .before .before .before .before .before .before .before) .looked .3
 
 -- src/stretch.rt:85:17
 mask-requires : tie.Need-mask-requires Inv-loop μ-loop
-mask-requires c κs = let d = head (c .before .before .before .before .before .before .before .before .before .before .before .before) in let f = asks _ _ _ _ _ _ _ _ _ _ _ d (Masks _ _ _ _ _) (c .before .before .before .before .before .before .before .before .before .before .a .given .1) in few-tokens _ _ (f .0 .begun .within) (omega (arith, c .before .before .before .before .before .before .before .before .before .before .before .before .before .before .before .before .before .good))
+mask-requires c κs =
+    let at-arm = c .before .before .before .before .before .before .before .before .before .before in
+    few-tokens _ _ (masks at-arm .looked .0 .begun .within) (small-budget (at-arm .before .before .before))
 
 -- src/stretch.rt:60:5
 loop-less-4 : tie.Need-loop-less-4 Inv-loop μ-loop
-loop-less-4 c = let d = head (c .before .before .before .before .before .before .before .before .before .before .before .before .before) in let f = asks _ _ _ _ _ _ _ _ _ _ _ d (Masks _ _ _ _ _) (c .before .before .before .before .before .before .before .before .before .before .before .a .given .1) in omega (arith, f .0 .begun, f .3, f .4)
+loop-less-4 c =
+    let a = masks (c .before .before .before .before .before .before .before .before .before .before .before) in
+    omega (arith, a .looked .0 .begun, a .looked .3, a .looked .4)
 
 -- src/stretch.rt:60:5
 loop-again-4 : tie.Need-loop-again-4 Inv-loop μ-loop
-loop-again-4 c = let d = head (c .before .before .before .before .before .before .before .before .before .before .before .before .before) in let f = asks _ _ _ _ _ _ _ _ _ _ _ d (Masks _ _ _ _ _) (c .before .before .before .before .before .before .before .before .before .before .before .a .given .1) in (
-      c .before .before .before .before .before .before .before .before .before .before .before .before .before .before .loop .inv .0,
-      c .before .before .before .put-bytes .kept .0 ∙ c .before .before .before .before .before .before .before .before .put-operator2 .kept .0 ∙ c .before .before .before .before .before .before .before .before .before .before .before .before .before .before .loop .inv .1,
-      omega (arith, d .turn .further, f .0 .begun, f .3),
-      arm-mask _ _ _ _ _ _ _ _ _ _ (d .turn) _ _ _ _ _ _ _ _ _ _ f (c .before .before .before .before .before .before .before .before .put-operator2 .ensures .1) (c .before .before .before .before .before .before .before .before .put-operator2 .ensures .0) (c .before .before .before .put-bytes .ensures .1)
-          (c .before .before .before .put-bytes .ensures .0) (c .mask .ensures),
+loop-again-4 c =
+    let at-bytes = c .before .before .before in
+    let at-put = at-bytes .before .before .before .before .before in
+    let at-arm = at-put .before .before .before in
+    let at-loop = at-arm .before .before .before in
+    let a = masks at-arm in
+    let p = at-put .put-operator2 in
+    let m = at-bytes .put-bytes in (
+      at-loop .loop .inv .0,
+      m .kept .0 ∙ p .kept .0 ∙ at-loop .loop .inv .1,
+      omega (arith, a .turn .further, a .looked .0 .begun, a .looked .3),
+      arm-mask _ _ _ _ _ _ _ _ _ _ (a .turn) _ _ _ _ _ _ _ _ _ _ (a .looked) (p .ensures .1) (p .ensures .0) (m .ensures .1) (m .ensures .0) (c .mask .ensures),
     )
+
+-- ---- the ends
 
 -- src/stretch.rt:88:28
 enum-known-next-4 : tie.Need-enum-known-next-4 Inv-loop μ-loop
@@ -223,7 +293,7 @@ same-length-2 c = c .before .before .before .before .loop .inv .1
 
 -- src/stretch.rt:89:17
 returns : tie.Need-returns Inv-loop μ-loop
-returns c = let d = head (c .before .before .before) in let f = asks _ _ _ _ _ _ _ _ _ _ _ d (Calls _ _) (c .before .next4 .given .1) in arm-call _ _ _ _ _ _ _ _ _ _ (d .turn) _ _ f
+returns c = let a = arm (c .before .before .before) (Calls _ _) (c .before .next4 .given .1) in arm-call _ _ _ _ _ _ _ _ _ _ (a .turn) _ _ (a .looked)
 
 -- src/stretch.rt:95:30
 enum-told : tie.Need-enum-told Inv-loop μ-loop
@@ -231,7 +301,8 @@ enum-told c = search needs
 
 -- src/stretch.rt:95:30
 go-back-requires : tie.Need-go-back-requires Inv-loop μ-loop
-go-back-requires c κs = let d = head (c .before .before) in let f = asks _ _ _ _ _ _ _ _ _ _ _ d Returns (c .enum-told .given .1) in few-tokens _ _ (f .2 .begun .within) (omega arith)
+go-back-requires c κs =
+    let a = arm (c .before .before) Returns (c .enum-told .given .1) in few-tokens _ _ (a .looked .2 .begun .within) (small-budget (c .before .before .before))
 
 -- src/stretch.rt:95:17
 ended-requires : tie.Need-ended-requires Inv-loop μ-loop
@@ -247,8 +318,13 @@ same-length-4 c = c .before .before .before .before .before .loop .inv .1
 
 -- src/stretch.rt:95:17
 returns-2 : tie.Need-returns-2 Inv-loop μ-loop
-returns-2 c = let d = head (c .before .before .before .before) in let f = asks _ _ _ _ _ _ _ _ _ _ _ d Returns (c .before .before .enum-told .given .1) in 
-    arm-return _ _ _ _ _ _ _ _ _ _ (d .turn) _ (c .ended .ensures ∙ ap (λ (y : State). record { st = y; stop = Finished Back }) (c .before .go-back .ensures)) f
+returns-2 c =
+    let a = arm (c .before .before .before .before) Returns (c .before .before .enum-told .given .1) in
+    let is = c .ended .ensures ∙ ap (λ (y : State). record { st = y; stop = Finished Back }) (c .before .go-back .ensures) in
+    arm-return _ _ _ _ _ _ _ _ _ _ (a .turn) _ is (a .looked)
+
+ends : (c : tie.After-p Inv-loop μ-loop) → Arm (c .before .before .before) (Ends (c .p .given .0 .0))
+ends c = arm (c .before .before) _ (c .p .given .1)
 
 -- src/stretch.rt:97:27
 enum-known-p : tie.Need-enum-known-p Inv-loop μ-loop
@@ -256,11 +332,13 @@ enum-known-p c = search needs
 
 -- src/stretch.rt:98:21
 put-operator-requires-3 : tie.Need-put-operator-requires-3 Inv-loop μ-loop
-put-operator-requires-3 c κs = let d = head (c .before .before .before .before) in let f = asks _ _ _ _ _ _ _ _ _ _ _ d (Ends _) (c .before .before .p .given .1) in omega (arith, d .numbers, f .1 .begun)
+put-operator-requires-3 c κs = let a = ends (c .before .before) in omega (arith, a .numbers, a .looked .1 .begun)
 
 -- src/stretch.rt:99:30
 finish-requires : tie.Need-finish-requires Inv-loop μ-loop
-finish-requires c κs = let d = head (c .before .before .before .before .before .before .before) in let f = asks _ _ _ _ _ _ _ _ _ _ _ d (Ends _) (c .before .before .before .before .before .p .given .1) in few-tokens _ _ (f .1 .begun .within) (omega arith)
+finish-requires c κs =
+    let at-arm = c .before .before .before .before .before in
+    few-tokens _ _ (ends at-arm .looked .1 .begun .within) (small-budget (at-arm .before .before .before))
 
 -- src/stretch.rt:99:17
 ended-requires-2 : tie.Need-ended-requires-2 Inv-loop μ-loop
@@ -272,13 +350,17 @@ same-length-5 c = c .before .before .before .before .before .before .before .bef
 
 -- src/stretch.rt:99:17
 same-length-6 : tie.Need-same-length-6 Inv-loop μ-loop
-same-length-6 c = c .before .before .before .before .put-operator3 .kept .0 ∙ c .before .before .before .before .before .before .before .before .before .before .loop .inv .1
+same-length-6 c =
+    let at-put = c .before .before .before .before in
+    at-put .put-operator3 .kept .0 ∙ at-put .before .before .before .before .before .before .loop .inv .1
 
 -- src/stretch.rt:99:17
 returns-3 : tie.Need-returns-3 Inv-loop μ-loop
-returns-3 c = let d = head (c .before .before .before .before .before .before .before .before .before) in let f = asks _ _ _ _ _ _ _ _ _ _ _ d (Ends _) (c .before .before .before .before .before .before .before .p .given .1) in 
-    arm-end _ _ _ _ _ _ _ _ _ _ (d .turn) _ _ _ _ (c .ended2 .ensures ∙ ap (λ (y : State). record { st = y; stop = Finished Ended }) (c .before .finish .ensures)) f
-    (c .before .before .before .before .put-operator3 .ensures .1) (c .before .before .before .before .put-operator3 .ensures .0)
+returns-3 c =
+    let p = c .before .before .before .before .put-operator3 in
+    let a = ends (c .before .before .before .before .before .before .before) in
+    let is = c .ended2 .ensures ∙ ap (λ (y : State). record { st = y; stop = Finished Ended }) (c .before .finish .ensures) in
+    arm-end _ _ _ _ _ _ _ _ _ _ (a .turn) _ _ _ _ is (a .looked) (p .ensures .1) (p .ensures .0)
 
 -- src/stretch.rt:102:34
 enum-told-2 : tie.Need-enum-told-2 Inv-loop μ-loop
@@ -298,7 +380,8 @@ same-length-8 c = c .before .before .before .before .loop .inv .1
 
 -- src/stretch.rt:102:17
 returns-4 : tie.Need-returns-4 Inv-loop μ-loop
-returns-4 c = let d = head (c .before .before .before) in let f = asks _ _ _ _ _ _ _ _ _ _ _ d Empty (c .before .enum-told2 .given .1) in arm-out _ _ _ _ _ _ _ _ _ _ (d .turn) _ (c .ended3 .ensures) f
+returns-4 c =
+    let a = arm (c .before .before .before) Empty (c .before .enum-told2 .given .1) in arm-out _ _ _ _ _ _ _ _ _ _ (a .turn) _ (c .ended3 .ensures) (a .looked)
 
 -- src/stretch.rt:104:26
 enum-known-k : tie.Need-enum-known-k Inv-loop μ-loop
@@ -318,7 +401,9 @@ same-length-10 c = c .before .before .before .before .before .loop .inv .1
 
 -- src/stretch.rt:105:17
 returns-5 : tie.Need-returns-5 Inv-loop μ-loop
-returns-5 c = let d = head (c .before .before .before .before) in let f = asks _ _ _ _ _ _ _ _ _ _ _ d (Bad _) (c .before .before .k .given .1) in arm-bad _ _ _ _ _ _ _ _ _ _ (d .turn) _ _ (c .ended4 .ensures) f
+returns-5 c =
+    let a = arm (c .before .before .before .before) (Bad _) (c .before .before .k .given .1) in
+    arm-bad _ _ _ _ _ _ _ _ _ _ (a .turn) _ _ (c .ended4 .ensures) (a .looked)
 
 pub stretch-spec : {M : Type 1} → statement M
 stretch-spec =
