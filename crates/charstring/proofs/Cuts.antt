@@ -15,7 +15,7 @@ use Rattle.number.specs.Answer.{Answer, accepted, refused, alone}
 use Rattle.number.specs.BigEndian.{beAt}
 use Rattle.number.specs.Number.{Row, row32, row247, row251, row, rowOf, operandBy, Number, numberBy, charstringRows, readBy}
 use Rattle.number.specs.NumberLaws.{at-near, at-above, at-below, at-low}
-use Rattle.number.specs.RoundTrip.{read-width, read-inside, Width, one, two, three, five}
+use Rattle.number.specs.RoundTripLaws.{read-width, read-inside, Width, one, two, three, five}
 use Rattle.number.specs.Written.{spelling}
 use Rattle.number.specs.KeptLaws.{one-kept, two-kept}
 use Rattle.number.specs.declared.Operand.{Operand}

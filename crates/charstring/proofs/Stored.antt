@@ -10,7 +10,7 @@ use Rattle.number.specs.Answer.{Values, Answer, accepted, refused, mapped, leav
 use Rattle.number.specs.AnswerLaws.{refused-accepted, accepted-same, answer-as, left-as, into-fits}
 use Rattle.number.specs.Number.{charstringRows}
 use Rattle.number.specs.Written.{bytes, bytesBy, spell, spelling, write, numberWritten}
-use Rattle.number.specs.RoundTrip.{spelling-most}
+use Rattle.number.specs.RoundTripLaws.{spelling-most}
 use Rattle.number.specs.declared.Operand.{Operand}
 use Rattle.number.specs.declared.write.Form.{Form}
 use Rattle.number.specs.declared.write.NumberWritten.{NumberWritten}

@@ -11,7 +11,8 @@ use Rattle.reading.specs.Items.{Item, operand, bare, masked, Left, leaves, left
 use Rattle.reading.specs.Reading.{struck, Ending as How, back, Run, State as Now, Step, halt, go, onToken, after, tokensOf, read}
 use Rattle.reading.specs.StepLaws.{Goes, token-goes}
 use Rattle.reading.specs.RunLaws.{Led}
-use Rattle.reading.specs.ValidLaws.{ByteLists, Good, Ends, good-goes}
+use Rattle.reading.specs.Valid.{ByteLists, Good, Ends}
+use Rattle.reading.specs.ValidLaws.{good-goes}
 use Rattle.reading.specs.CutLaws.{bytes-drop}
 use Rattle.reading.specs.StraightLaws.{run-step}
 use Rattle.reading.specs.SizeLaws.{longestItem, valid-most, struck-fewer}

@@ -14,7 +14,7 @@ use Rattle.reading.specs.Items.{Item, operand, bare, masked}
 use Rattle.reading.specs.Reading.{struck, Ending as How, back, ended, stopped, Run, State as Now, refuse, onOperator, onToken, tokensOf, read}
 use Rattle.reading.specs.Flat.{flat}
 use Rattle.reading.specs.Answers.{numberOf}
-use Rattle.reading.specs.ValidLaws.{ByteLists, Good}
+use Rattle.reading.specs.Valid.{ByteLists, Good}
 use Rattle.reading.specs.declared.Rules.{Rules as CodeRules}
 use Rattle.reading.specs.declared.Operator.{Operator}
 use Rattle.reading.specs.declared.Which.{Which}

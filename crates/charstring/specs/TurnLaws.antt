@@ -15,7 +15,7 @@ use Rattle.reading.specs.Items.{Item, operand, bare, masked as mask-of, Left, p
 use Rattle.reading.specs.Reading.{struck, State as Now, go, shows}
 use Rattle.reading.specs.Flat.{operatorBytes, spelled, flat}
 use Rattle.reading.specs.StepLaws.{pushes, stems, clears, masks}
-use Rattle.reading.specs.ValidLaws.{Good}
+use Rattle.reading.specs.Valid.{Good}
 use Rattle.reading.specs.declared.Operator.{Operator}
 use Rattle.reading.specs.declared.Kind.the-variants.{Mask}
 use Rattle.charstring.specs.Words.{unpackOf, stackOf}

@@ -12,7 +12,7 @@ use Rattle.number.specs.AnswerLaws.{refused-accepted, accepted-same, into-fits,
 use Rattle.reading.specs.Rules.{Rules, rulesOf, meant}
 use Rattle.reading.specs.Items.{leftBy}
 use Rattle.reading.specs.Reading.{struck, start, Ending as How, back, ended, stopped, Run, tokensBy, tokens, reading, original}
-use Rattle.reading.specs.ValidLaws.{none}
+use Rattle.reading.specs.Valid.{none}
 use Rattle.reading.specs.Flat.{flat}
 use Rattle.reading.specs.Answers.{Flattening, flatOf, flatReady, readyBy, verdict, outcome, numberOf}
 use Rattle.reading.specs.declared.Rules.{Rules as CodeRules}

@@ -1,5 +1,5 @@
 pub mod Writing
 pub mod Code
 pub mod WritingLaws
-pub mod RoundTrip
+pub mod RoundTripLaws
 pub mod Examples

@@ -15,7 +15,7 @@ use Rattle.number.specs.Number.{Row, row32, row247, row251, integerRows,
 use Rattle.number.specs.NumberLaws.{Every, every-found, row-range}
 use Rattle.number.specs.Written.{integer, form, spell, bytes, bytesBy, spelling}
 use Rattle.number.specs.WrittenLaws.{up-one, up-two, down-one, down-two, table-left}
-use Rattle.number.specs.RoundTrip.{read-row}
+use Rattle.number.specs.RoundTripLaws.{read-row}
 
 -- a row of one byte or two writes what it reads, a first byte b and v after it
 abbrev Kept : Row → Type 0

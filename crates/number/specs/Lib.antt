@@ -11,6 +11,6 @@ pub mod WrittenLaws
 pub mod Call
 pub mod Code
 pub mod CallLaws
-pub mod RoundTrip
+pub mod RoundTripLaws
 pub mod KeptLaws
 pub mod Examples

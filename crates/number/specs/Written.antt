@@ -1,4 +1,4 @@
--- Numbers written: in the first row of the table that has the operand, and so in the shortest form (`shortest` of RoundTrip.antt).
+-- Numbers written: in the first row of the table that has the operand, and so in the shortest form (`shortest` of RoundTripLaws.antt).
 use Prim.Native.Nat.{ℕ, _+_, _-_, _*_, _/_, _%_, _^_}
 use mathlib.Core.Bool.{Bool, true, false, cond, not, _&&_}
 use mathlib.Core.List.{List, [], _∷_}

@@ -11,8 +11,9 @@ use borrow.Author.Tests.{eqb-true}
 use Rattle.number.specs.Answer.{Values, Answer, accepted, refused, alone}
 use Rattle.number.specs.Number.{Number, charstringRows, Found, row, noRow, rowOf, numberBy, readBy}
 use Rattle.number.specs.NumberLaws.{read-some}
-use Rattle.number.specs.RoundTrip.{read-width, read-inside, Width, one, two, three, five, Spellable, read-spellable}
+use Rattle.number.specs.RoundTripLaws.{read-width, read-inside, Width, one, two, three, five, Spellable, read-spellable}
 use Rattle.reading.specs.Tokens.{Bytes, Token, number, operator, token, lacking, escapedAt, operatorAt, cutBy, cut}
+use Rattle.reading.specs.Valid.{Cuttable}
 use Rattle.reading.specs.Flat.{operatorBytes}
 use Rattle.reading.specs.declared.Operator.{Operator}
 
@@ -22,10 +23,6 @@ bytes-drop n s h i = rw (getD-drop n s i 0) (h (n + i))
 
 pub bytes-tail : (b : ℕ) (s : List ℕ) → Bytes (b ∷ s) → Bytes s
 bytes-tail b s h i = h (suc i)
-
--- an operator is cut from its own bytes, whatever follows
-abbrev pub Cuttable : Operator → Type 0
-Cuttable p = (rest : List ℕ) → cut (operatorBytes p ++ rest) ≡ token (operator p) rest
 
 -- a byte that starts no number does so whatever follows
 module _ (b : ℕ) where

@@ -5,6 +5,7 @@ pub mod Items
 pub mod Reading
 pub mod Flat
 pub mod Answers
+pub mod Valid
 pub mod Masks
 pub mod Demands
 pub mod CutLaws

@@ -10,7 +10,7 @@ use borrow.Author.Tests.{eq-eqb, ne-eqb, eqb-true, eqb-false}
 use Rattle.reading.specs.Rules.{Rules}
 use Rattle.reading.specs.Items.{Item, operand, bare, masked, Left, atMask, byKind, leaves, leftBy}
 use Rattle.reading.specs.Masks.{isStem, waiting, hasMask, declared, maskBytes, StemsFirst, ByNote}
-use Rattle.reading.specs.ValidLaws.{Valid, none, number-behind, stem-behind, clear-behind, mask-behind, Whole, open-ended, end-behind}
+use Rattle.reading.specs.Valid.{Valid, none, number-behind, stem-behind, clear-behind, mask-behind, Whole, open-ended, end-behind}
 use Rattle.reading.specs.declared.Kind.{Kind}
 use Rattle.reading.specs.declared.Kind.the-variants.{Stem, Clear}
 

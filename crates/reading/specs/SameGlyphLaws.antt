@@ -26,8 +26,8 @@ use Rattle.reading.specs.Demands.{leads, Flat, empty, SameGlyph, reporte
 use Rattle.reading.specs.BudgetLaws.{count}
 use Rattle.reading.specs.AnswerLaws.{accepted-tokens, gate-open, Took, flattening-took}
 use Rattle.reading.specs.SizeLaws.{struck-fewer}
-use Rattle.reading.specs.ValidLaws.{Valid, none, number-behind, stem-behind, clear-behind, mask-behind}
-use Rattle.reading.specs.ValidLaws.{Whole, open-ended, end-behind, Ends, ByteLists, run-ends}
+use Rattle.reading.specs.Valid.{Valid, none, number-behind, stem-behind, clear-behind, mask-behind, Whole, open-ended, end-behind, Ends, ByteLists}
+use Rattle.reading.specs.ValidLaws.{run-ends}
 use Rattle.reading.specs.StraightLaws.{whole-back, struck-shown, count-shown, Just, read-again}
 use Rattle.reading.specs.declared.Which.the-variants.{Local, Global}
 

@@ -7,15 +7,15 @@ use native.Mathlib.Nat.{le-refl, mul-le-mul, mul-suc}
 use native.Mathlib.Omega.{arith}
 use lib.Dec.{eqb}
 use lib.ListN.{length, length-append, length-drop}
-use Rattle.number.specs.RoundTrip.{spelling-most}
+use Rattle.number.specs.RoundTripLaws.{spelling-most}
 use Rattle.reading.specs.Rules.{Rules}
 use Rattle.reading.specs.Lists.{Lists}
 use Rattle.reading.specs.Tokens.{Bytes}
 use Rattle.reading.specs.Items.{Item, operand, bare, masked, Left, atMask, byKind, leaves, leftBy}
 use Rattle.reading.specs.Reading.{Shown, item, call, return, struck, State, Ending, back, ended, stopped, reading}
 use Rattle.reading.specs.Flat.{operatorBytes, spelled, flat}
-use Rattle.reading.specs.ValidLaws.{Valid, none, number-behind, stem-behind, clear-behind, mask-behind}
-use Rattle.reading.specs.ValidLaws.{Whole, open-ended, end-behind, Ends, ByteLists, run-ends}
+use Rattle.reading.specs.Valid.{Valid, none, number-behind, stem-behind, clear-behind, mask-behind, Whole, open-ended, end-behind, Ends, ByteLists}
+use Rattle.reading.specs.ValidLaws.{run-ends}
 use Rattle.reading.specs.declared.Operator.{Operator}
 
 -- the longest mask, and the longest item

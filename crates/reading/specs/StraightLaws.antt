@@ -10,17 +10,16 @@ use lib.Seq.{take-at, drop-at}
 use Rattle.number.specs.Answer.{accepted}
 use Rattle.number.specs.Number.{charstringRows}
 use Rattle.number.specs.Written.{spelling}
-use Rattle.number.specs.RoundTrip.{Spellable, read-spelling, spelling-some}
+use Rattle.number.specs.RoundTripLaws.{Spellable, read-spelling, spelling-some}
 use Rattle.number.specs.declared.Operand.{Operand}
 use Rattle.reading.specs.Rules.{Rules}
 use Rattle.reading.specs.Lists.{Lists}
 use Rattle.reading.specs.Tokens.{number, token, cutBy, cut}
-use Rattle.reading.specs.CutLaws.{Cuttable}
 use Rattle.reading.specs.Items.{Item, operand, bare, masked, Left, pushed, cleared, counted, atMask, byKind, leaves, leftBy}
 use Rattle.reading.specs.Reading.{Shown, item, struck, State, start, back, ended, Run, Step, go, shows, onToken, after, tokensOf, read, reading, Accepted}
 use Rattle.reading.specs.Flat.{operatorBytes, spelled, flat, Straight, isMask, shownBehind, behind, straightFrom, straight}
 use Rattle.reading.specs.StepLaws.{Goes, pushes, stems, clears, masks, ends, token-goes}
-use Rattle.reading.specs.ValidLaws.{Valid, none, number-behind, stem-behind, clear-behind, mask-behind, Whole, open-ended, end-behind}
+use Rattle.reading.specs.Valid.{Valid, none, number-behind, stem-behind, clear-behind, mask-behind, Whole, open-ended, end-behind, Cuttable}
 use Rattle.reading.specs.declared.Operator.{Operator}
 use Rattle.reading.specs.declared.Kind.{Kind}
 use Rattle.reading.specs.declared.Kind.the-variants.{Stem, Clear, Mask, End}

@@ -7,14 +7,17 @@ use Prim.Native.Nat.{ℕ, _<_, _≤_}
 use native.Mathlib.Omega.{arith}
 use lib.ListN.{length, take, drop}
 use lib.Seq.{length-take-le}
-use Rattle.number.specs.RoundTrip.{Spellable}
+use Rattle.number.specs.RoundTripLaws.{Spellable}
 use Rattle.number.specs.declared.Operand.{Operand}
 use Rattle.reading.specs.Rules.{Rules}
 use Rattle.reading.specs.Lists.{Lists, present, listed}
 use Rattle.reading.specs.Tokens.{number, operator, token, cut, Bytes}
-use Rattle.reading.specs.CutLaws.{Cuttable, cut-off, bytes-drop}
+use Rattle.reading.specs.CutLaws.{cut-off, bytes-drop}
 use Rattle.reading.specs.Items.{Item, operand, bare, masked, Left, pushed, popped, cleared, counted, atMask, byKind, leaves, leftBy}
-use Rattle.reading.specs.Reading.{Entering, Shown, item, call, return, struck, State, start, Ending, back, ended, stopped, Step, endsInOperand, reading}
+use Rattle.reading.specs.Reading.{Entering, item, call, return, struck, State, shows}
+use Rattle.reading.specs.Reading.{start, Ending, back, ended, stopped, Step, endsInOperand, reading}
+use Rattle.reading.specs.Valid.{Cuttable, Valid, none, number-behind, stem-behind, clear-behind, mask-behind, Whole, open-ended, end-behind}
+use Rattle.reading.specs.Valid.{Taken, Good, Ended, Ends, ByteLists}
 use Rattle.reading.specs.StepLaws.{declines, goes, Goes, pushes, stems, clears, masks, enters, returns, ends, Stepped, spent, begun, token-is}
 use Rattle.reading.specs.RunLaws.{Led, Kept, kept}
 use Rattle.reading.specs.declared.Operator.{Operator}
@@ -22,51 +25,10 @@ use Rattle.reading.specs.declared.Which.{Which}
 use Rattle.reading.specs.declared.Kind.{Kind}
 use Rattle.reading.specs.declared.Kind.the-variants.{Stem, Clear, Mask, End}
 
--- ---- valid items, of which the latest stands first
-
-pub data Valid (rules : Rules) : List Item → Type 0 where
-  none : Valid rules []
-  number-behind : (o : Operand) (f : List Item) → Spellable false o → length (leftBy rules f .operands) < rules .operands → Valid rules f
-      → Valid rules (operand o ∷ f)
-  stem-behind : (p : Operator) (f : List Item) → Cuttable p → rules .kind p ≡ Stem → counted (leftBy rules f) .hints ≤ rules .hints → Valid rules f
-      → Valid rules (bare p ∷ f)
-  clear-behind : (p : Operator) (f : List Item) → Cuttable p → rules .kind p ≡ Clear → Valid rules f → Valid rules (bare p ∷ f)
-  mask-behind : (p : Operator) (m : List ℕ) (f : List Item) → Cuttable p → rules .kind p ≡ Mask → atMask (leftBy rules f) .hints ≤ rules .hints
-      → length m ≡ atMask (leftBy rules f) .mask → Valid rules f → Valid rules (masked p m ∷ f)
-
--- what an accepted run ends in: valid items, and perhaps an endchar behind them
-pub data Whole (rules : Rules) : List Item → Type 0 where
-  open-ended : (f : List Item) → Valid rules f → Whole rules f
-  end-behind : (p : Operator) (f : List Item) → Cuttable p → rules .kind p ≡ End → length (leftBy rules f .operands) < 4 → Valid rules f
-      → Whole rules (bare p ∷ f)
-
--- each call struck out the operand that it took
-abbrev pub Taken : List Shown → Type 0
-Taken [] = Unit {0}
-Taken (item i ∷ h) = Taken h
-Taken (call c ∷ h) = (struck h ≡ operand (c .index) ∷ drop 1 (struck h)) × Taken h
-Taken (return ∷ h) = Taken h
-
--- ---- the invariant
-
-pub record Good (rules : Rules) (s : State) : Type 0 where
-  pub agree : leftBy rules (struck (s .shown)) ≡ s .left
-  pub valid : Valid rules (struck (s .shown))
-  pub taken : Taken (s .shown)
-
-pub record Ended (rules : Rules) (s : State) : Type 0 where
-  pub whole : Whole rules (struck (s .shown))
-  pub taken : Taken (s .shown)
-
-abbrev pub Ends : Rules → Ending → State → Type 0
-Ends rules back s = Good rules s
-Ends rules ended s = Ended rules s
-Ends rules (stopped n) s = Good rules s
-
 -- an item is shown
 module _ (rules : Rules) (s : State) (g : Good rules s) where
   shown-good : (i : Item) (x : Left) → leaves rules i (s .left) ≡ x → Valid rules (i ∷ struck (s .shown))
-      → Good rules (record { left = x; shown = item i ∷ s .shown; within = s .within })
+      → Good rules (shows i x s)
   unfolding struck leftBy
   shown-good i x e v = record { agree = ap (leaves rules i) (g .agree) ∙ e; valid = v; taken = g .taken }
 
@@ -76,7 +38,7 @@ module _ (rules : Rules) (s : State) (g : Good rules s) where
 
   module _ (o : Operand) where
     number-good : Spellable false o → length (s .left .operands) < rules .operands
-        → Good rules (record { left = pushed o (s .left); shown = item (operand o) ∷ s .shown; within = s .within })
+        → Good rules (shows (operand o) (pushed o (s .left)) s)
     unfolding leaves
     number-good p l =
         shown-good (operand o) (pushed o (s .left)) refl
@@ -84,18 +46,18 @@ module _ (rules : Rules) (s : State) (g : Good rules s) where
 
   module _ (p : Operator) (c : Cuttable p) where
     stem-good : rules .kind p ≡ Stem → counted (s .left) .hints ≤ rules .hints
-        → Good rules (record { left = counted (s .left); shown = item (bare p) ∷ s .shown; within = s .within })
+        → Good rules (shows (bare p) (counted (s .left)) s)
     unfolding byKind
     stem-good k l =
         shown-good (bare p) (counted (s .left)) (leaves-bare p Stem k)
         (stem-behind p (struck (s .shown)) c k (subst (λ (x : Left). counted x .hints ≤ rules .hints) (sym (g .agree)) l) (g .valid))
 
-    clear-good : rules .kind p ≡ Clear → Good rules (record { left = cleared (s .left); shown = item (bare p) ∷ s .shown; within = s .within })
+    clear-good : rules .kind p ≡ Clear → Good rules (shows (bare p) (cleared (s .left)) s)
     unfolding byKind
     clear-good k = shown-good (bare p) (cleared (s .left)) (leaves-bare p Clear k) (clear-behind p (struck (s .shown)) c k (g .valid))
 
     mask-good : (m : List ℕ) → rules .kind p ≡ Mask → atMask (s .left) .hints ≤ rules .hints → length m ≡ atMask (s .left) .mask
-        → Good rules (record { left = atMask (s .left); shown = item (masked p m) ∷ s .shown; within = s .within })
+        → Good rules (shows (masked p m) (atMask (s .left)) s)
     unfolding leaves
     mask-good m k l n =
         shown-good (masked p m) (atMask (s .left)) refl
@@ -103,7 +65,7 @@ module _ (rules : Rules) (s : State) (g : Good rules s) where
         (subst (λ (x : Left). length m ≡ atMask x .mask) (sym (g .agree)) n) (g .valid))
 
     end-good : rules .kind p ≡ End → length (s .left .operands) < 4
-        → Ended rules (record { left = s .left; shown = item (bare p) ∷ s .shown; within = s .within })
+        → Ended rules (shows (bare p) (s .left) s)
     unfolding struck
     end-good k l =
         record {
@@ -149,10 +111,6 @@ module _ (rules : Rules) (s : State) (g : Good rules s) (c : Entering) (ops : Li
       }
 
 -- ---- it is kept
-
--- the entries of both lists are bytes
-abbrev pub ByteLists : Lists → Type 0
-ByteLists lists = (which : Which) (k : ℕ) (body : List ℕ) → listed lists which .entry k ≡ present body → Bytes body
 
 module _ (rules : Rules) (lists : Lists) (budget : ℕ) (entries : ByteLists lists) where
   module _ (levels at : ℕ) (bytes : List ℕ) (s : State) (h : Bytes bytes) (g : Good rules s) where
