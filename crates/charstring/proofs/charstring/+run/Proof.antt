@@ -1,5 +1,5 @@
 use mathlib.Core.Path.{_≡_, refl, sym, ap, subst, _∙_}
-use Prim.Native.Nat.{_-_, _≤_}
+use Prim.Native.Nat.{ℕ, _-_, _≤_, _<_}
 use denote.Ref.{now}
 use native.Mathlib.Omega.{arith}
 use lib.ListN.{length, getD}
@@ -13,7 +13,6 @@ use Rattle.charstring.specs.LoopLaws.{Stands, Gives, begins, Turn, roomy
 use Rattle.charstring.specs.LoopLaws.{index-there, inside-sound, arm-back, arm-passed, aims-at, ended-goes, refused-goes}
 use Rattle.charstring.specs.declared.stretch.Ending.the-variants.{Back}
 use Rattle.charstring.specs.declared.subroutines.Target.the-variants.{Enter}
-use Prim.Native.Nat.{ℕ, _<_}
 use borrow.Fn.Kinds.{In, Out}
 use borrow.Fn.PlainCycle.{Measures, is, falls, and}
 use Rattle.charstring.proofs.charstring.run.Reads as run
@@ -192,7 +191,6 @@ module _ (t : ℕ) (c : Of run-lts.After-run t) where
 
 -- ---- the needs
 
--- src/charstring.rt:35:5
 run-loop-holds : (t : ℕ) → Of run-lts.Need-loop-holds t
 run-loop-holds t c =
     let args = c .before .before .before .before .before .args in (
@@ -203,73 +201,56 @@ run-loop-holds t c =
           (λ k. c .before .before .shared-slice-known3 .given k .fits),
     )
 
--- src/charstring.rt:36:13
 run-stretch-requires : (t : ℕ) → Of run-lts.Need-stretch-requires t
 run-stretch-requires t c κs = let h = turn-at t (c .before .before) in (roomy-now _ _ _ _ _ _ _ _ _ _ _ _ h, stands-on _ _ _ _ _ _ _ _ _ _ _ _ h)
 
--- src/charstring.rt:40:24
 run-enum-known-stop : (t : ℕ) → Of run-lts.Need-enum-known-stop t
 run-enum-known-stop t c = search needs
 
--- src/charstring.rt:41:17
 run-same-length : (t : ℕ) → Of run-lts.Need-same-length t
 run-same-length t c = same-stack t (c .before .before .before .before .before .before .before .before)
 
--- src/charstring.rt:41:17
 run-same-length-2 : (t : ℕ) → Of run-lts.Need-same-length-2 t
 run-same-length-2 t c = same-out t (c .before .before .before .before .before .before .before .before)
 
--- src/charstring.rt:41:17
 run-returns : (t : ℕ) → Of run-lts.Need-returns t
 run-returns t c =
     let at = c .before .before .before .before .before .before .before .before in
     arm-done _ _ _ _ _ _ _ _ _ _ _ _ (turn-at t (loop-of t at)) (at .stretch .result) _ _ (at .stretch .ensures) _ (c .before .stop .given .1)
 
--- src/charstring.rt:43:24
 run-enum-known-stop-2 : (t : ℕ) → Of run-lts.Need-enum-known-stop-2 t
 run-enum-known-stop-2 t c = search needs
 
--- src/charstring.rt:44:27
 run-sub-top : (t : ℕ) → Of run-lts.Need-sub-top t
 run-sub-top t c = omega (arith, numbers t (c .before .before) .some)
 
--- src/charstring.rt:45:32
 run-mul-unpack : (t : ℕ) → Of run-lts.Need-mul-unpack t
 run-mul-unpack t c = let n = numbers t (c .before .before) in omega (arith, n .numbers, n .some)
 
--- src/charstring.rt:45:32
 run-slice-read-unpack : (t : ℕ) → Of run-lts.Need-slice-read-unpack t
 run-slice-read-unpack t c = let n = numbers t (c .before .before .before) in omega (arith, n .numbers, n .some)
 
--- src/charstring.rt:45:21
 run-unpack-requires : (t : ℕ) → Of run-lts.Need-unpack-requires t
 run-unpack-requires t c κs = tt
 
--- src/charstring.rt:47:21
 run-choose-requires : (t : ℕ) → Of run-lts.Need-choose-requires t
 run-choose-requires t c κs = tt
 
--- src/charstring.rt:49:21
 run-choose-count-requires : (t : ℕ) → Of run-lts.Need-choose-count-requires t
 run-choose-count-requires t c κs = tt
 
--- src/charstring.rt:47:21
 run-aim-requires : (t : ℕ) → Of run-lts.Need-aim-requires t
 run-aim-requires t c κs = tt
 
--- src/charstring.rt:56:32
 run-enum-known-target : (t : ℕ) → Of run-lts.Need-enum-known-target t
 run-enum-known-target t c = search needs
 
--- src/charstring.rt:57:25
 run-same-length-3 : (t : ℕ) → Of run-lts.Need-same-length-3 t
 run-same-length-3 t c = same-stack t (stretch-of t (c .before .before .before .before .before .before .before .before .before .before))
 
--- src/charstring.rt:57:25
 run-same-length-4 : (t : ℕ) → Of run-lts.Need-same-length-4 t
 run-same-length-4 t c = same-out t (stretch-of t (c .before .before .before .before .before .before .before .before .before .before))
 
--- src/charstring.rt:57:25
 run-returns-2 : (t : ℕ) → Of run-lts.Need-returns-2 t
 run-returns-2 t c =
     let at-aim = c .before .before .before in
@@ -281,27 +262,21 @@ run-returns-2 t c =
     let b = at-call t (c .before .before .before .before .before .before .before .before .before .before) in
     arm-no _ _ _ _ _ _ _ _ _ _ _ _ _ _ b (c .before .target .given .0 .0) e
 
--- src/charstring.rt:62:35
 run-enum-known-target-2 : (t : ℕ) → Of run-lts.Need-enum-known-target-2 t
 run-enum-known-target-2 t c = search needs
 
--- src/charstring.rt:63:36
 run-sub-body : (t : ℕ) → Of run-lts.Need-sub-body t
 run-sub-body t c = inside t (c .before) .0
 
--- src/charstring.rt:63:36
 run-part-body-start : (t : ℕ) → Of run-lts.Need-part-body-start t
 run-part-body-start t c = inside t (c .before) .0
 
--- src/charstring.rt:63:36
 run-part-body-end : (t : ℕ) → Of run-lts.Need-part-body-end t
 run-part-body-end t c = inside t (c .before) .1
 
--- src/charstring.rt:64:49
 run-size-of-requires : (t : ℕ) → Of run-lts.Need-size-of-requires t
 run-size-of-requires t c κs = tt
 
--- src/charstring.rt:64:29
 run-enter-requires : (t : ℕ) → Of run-lts.Need-enter-requires t
 run-enter-requires t c κs =
     let call = call-of t (target-of t c) in
@@ -310,11 +285,9 @@ run-enter-requires t c κs =
     let good = start-of t (loop-of t (stretch-of t call)) .good in
     (n .some, x .1, few-tokens _ _ (n .begun) (omega (arith, good)), x .0)
 
--- src/charstring.rt:65:83
 run-sub-run : (t : ℕ) → Of run-lts.Need-sub-run t
 run-sub-run t c = let y = there t (c .before .before .before) .2 in omega arith
 
--- src/charstring.rt:65:29
 run-run-requires : (t : ℕ) → Of run-lts.Need-run-requires t
 run-run-requires t c κs =
     let at-size = c .before .before .before in
@@ -330,49 +303,38 @@ run-run-requires t c κs =
       ),
     )
 
--- src/charstring.rt:69:33
 run-enum-told : (t : ℕ) → Of run-lts.Need-enum-told t
 run-enum-told t c = search needs
 
--- src/charstring.rt:35:5
 run-loop-less : (t : ℕ) → Of run-lts.Need-loop-less t
 run-loop-less t c =
     let n = numbers t (call-of t (target-of t (size-of t (c .before .before .before .before .before .before .before)))) in omega (arith, n .ahead, n .inside)
 
--- src/charstring.rt:35:5
 run-loop-again : (t : ℕ) → Of run-lts.Need-loop-again t
 run-loop-again t c =
     let at = c .before .before .before .before .before .before .before in (still-stack t at, still-out t at, back t at (c .before .enum-told .given .1))
 
--- src/charstring.rt:73:33
 run-enum-told-2 : (t : ℕ) → Of run-lts.Need-enum-told-2 t
 run-enum-told-2 t c = search needs
 
--- src/charstring.rt:73:33
 run-same-length-5 : (t : ℕ) → Of run-lts.Need-same-length-5 t
 run-same-length-5 t c = still-stack t (c .before .before .before .before .before .before)
 
--- src/charstring.rt:73:33
 run-same-length-6 : (t : ℕ) → Of run-lts.Need-same-length-6 t
 run-same-length-6 t c = still-out t (c .before .before .before .before .before .before)
 
--- src/charstring.rt:73:33
 run-returns-3 : (t : ℕ) → Of run-lts.Need-returns-3 t
 run-returns-3 t c = passed t (c .before .before .before .before .before .before) (ended-goes _ (c .enum-told2 .given .1))
 
--- src/charstring.rt:76:33
 run-enum-told-3 : (t : ℕ) → Of run-lts.Need-enum-told-3 t
 run-enum-told-3 t c = search needs
 
--- src/charstring.rt:76:33
 run-same-length-7 : (t : ℕ) → Of run-lts.Need-same-length-7 t
 run-same-length-7 t c = still-stack t (c .before .before .before .before .before .before)
 
--- src/charstring.rt:76:33
 run-same-length-8 : (t : ℕ) → Of run-lts.Need-same-length-8 t
 run-same-length-8 t c = still-out t (c .before .before .before .before .before .before)
 
--- src/charstring.rt:76:33
 run-returns-4 : (t : ℕ) → Of run-lts.Need-returns-4 t
 run-returns-4 t c = passed t (c .before .before .before .before .before .before) (refused-goes _ _ (c .enum-told3 .given .1))
 

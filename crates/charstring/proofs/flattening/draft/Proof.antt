@@ -21,23 +21,18 @@ ran c =
     done (args .profile) _ (at-rules-of .rules-of .ensures) _ _ refl _ _ (args .budget) _ _ (at-start .at-start .ensures) (at-limits-of .limits-of .ensures)
     _ _ _ _ (c .run .ensures)
 
--- src/flattening.rt:107:9
 rules-of-requires : tie.Need-rules-of-requires
 rules-of-requires c κs = search needs
 
--- src/flattening.rt:108:9
 limits-of-requires : tie.Need-limits-of-requires
 limits-of-requires c κs = search needs
 
--- src/flattening.rt:115:9
 at-start-requires : tie.Need-at-start-requires
 at-start-requires c κs = search needs
 
--- src/flattening.rt:116:9
 slice-aggregate-run : tie.Need-slice-aggregate-run
 slice-aggregate-run c = search needs
 
--- src/flattening.rt:110:9
 run-requires : tie.Need-run-requires
 run-requires c κs =
     let at-start = c .before .before in
@@ -46,46 +41,36 @@ run-requires c κs =
     let args = at-rules-of .before .before .before .before .before .args in
     ready (args .profile) _ (at-rules-of .rules-of .ensures) _ _ refl _ _ (args .budget) _ _ (at-start .at-start .ensures) (at-limits-of .limits-of .ensures)
 
--- src/flattening.rt:123:25
 enum-told : tie.Need-enum-told
 enum-told c = search needs
 
--- src/flattening.rt:124:26
 enum-told-2 : tie.Need-enum-told-2
 enum-told-2 c = search needs
 
--- src/flattening.rt:125:25
 enum-known-how : tie.Need-enum-known-how
 enum-known-how c = search needs
 
--- src/flattening.rt:125:53
 counted-requires : tie.Need-counted-requires
 counted-requires c κs =
     let at-run = c .before .before .before .before .before .before .before in
     let start = at-run .before .before .before .before .before .before .before .before .before .before in
     few-tokens _ _ _ _ _ (ran at-run) _ (c .before .how .given .1) (start .args .budget) (tokens-budget _ _ _ _) (start .fits .budget .fits)
 
--- src/flattening.rt:96:1
 same-length : tie.Need-same-length
 same-length c = search needs
 
--- src/flattening.rt:96:1
 returns : tie.Need-returns
 returns c = let d = ran (c .before .before .before .before .before .before) in (came-back _ _ _ _ _ d (c .enum-told .given .1), d .bytes)
 
--- src/flattening.rt:96:1
 same-length-2 : tie.Need-same-length-2
 same-length-2 c = search needs
 
--- src/flattening.rt:96:1
 returns-2 : tie.Need-returns-2
 returns-2 c = let d = ran (c .before .before .before .before .before .before) in (all-ended _ _ _ _ _ d (c .enum-told2 .given .1), d .bytes)
 
--- src/flattening.rt:96:1
 same-length-3 : tie.Need-same-length-3
 same-length-3 c = search needs
 
--- src/flattening.rt:96:1
 returns-3 : tie.Need-returns-3
 returns-3 c =
     let d = ran (c .before .before .before .before .before .before .before .before) in

@@ -52,30 +52,25 @@ locals-formed : (c : tie.After-well-formed2)
     formed (c .well-formed2 .result) ≡ formation (rulesOf (args .profile) .width) (args .locals .now)
 locals-formed c = formed-by _ _ _ (c .well-formed2 .result) (c .before .before .before .before .rules-of .ensures) (c .well-formed2 .ensures)
 
--- src/flattening.rt:41:9
 rules-of-requires : tie.Need-rules-of-requires
 rules-of-requires c κs = search needs
 
--- src/flattening.rt:43:26
 well-formed-requires : tie.Need-well-formed-requires
 well-formed-requires c κs = search needs
 
 enum-told : tie.Need-enum-told
 enum-told c = search needs
 
--- src/flattening.rt:44:9
 returns : tie.Need-returns
 unfolding flattening
 returns c = shut 1 _ _ _ (c .before .well-formed .result) (c .match .keys2) (globals-formed (c .before))
 
--- src/flattening.rt:46:26
 well-formed-requires-2 : tie.Need-well-formed-requires-2
 well-formed-requires-2 c κs = search needs
 
 enum-told-2 : tie.Need-enum-told-2
 enum-told-2 c = search needs
 
--- src/flattening.rt:47:9
 returns-2 : tie.Need-returns-2
 unfolding flattening
 returns-2 c =
@@ -84,15 +79,12 @@ returns-2 c =
     shut 2 _ _ _ (c .before .well-formed2 .result) (c .match2 .keys2) (locals-formed (c .before))
     ∙ opened 1 _ _ _ (globals .well-formed .result) (at-match .match .keys1) (globals-formed globals)
 
--- src/flattening.rt:49:5
 write-requires : tie.Need-write-requires
 write-requires c κs = search needs
 
--- src/flattening.rt:30:1
 same-length : tie.Need-same-length
 same-length c = search needs
 
--- src/flattening.rt:30:1
 returns-3 : tie.Need-returns-3
 unfolding flattening
 returns-3 c =

@@ -2,15 +2,12 @@ use borrow.Author.Needs.{needs}
 use Rattle.charstring.proofs.flattening.limits_of.Statement.{statement}
 use Rattle.charstring.proofs.flattening.limits_of.Tie as tie
 
--- src/flattening.rt:149:18
 count-of-requires : tie.Need-count-of-requires
 count-of-requires c κs = search needs
 
--- src/flattening.rt:150:17
 count-of-requires-2 : tie.Need-count-of-requires-2
 count-of-requires-2 c κs = search needs
 
--- src/flattening.rt:137:1
 returns : tie.Need-returns
 returns c = rw (c .before .count-of .ensures, c .count-of2 .ensures)
 

@@ -37,51 +37,39 @@ accepted : (c : tie.After-verdict)
     ≡ verdict (original (rulesOf (args .profile)) (args .cs .now) (args .globals .now) (args .locals .now) (args .budget))
 accepted c = ap flattened (sym (c .verdict .given .1)) ∙ c .before .before .before .draft .ensures .0
 
--- src/flattening.rt:66:63
 slice-aggregate-draft : tie.Need-slice-aggregate-draft
 slice-aggregate-draft c = search needs
 
--- src/flattening.rt:66:9
 draft-requires : tie.Need-draft-requires
 draft-requires c κs = search needs
 
--- src/flattening.rt:67:29
 enum-known-verdict : tie.Need-enum-known-verdict
 enum-known-verdict c = search needs
 
--- src/flattening.rt:68:9
 returns : tie.Need-returns
 returns c = refused-so _ _ (c .before .before .draft .result) (c .match .keys2) (c .before .before .draft .ensures .0)
 
--- src/flattening.rt:71:9
 returns-2 : tie.Need-returns-2
 returns-2 c = by-short _ _ _ _ (accepted (c .before .before)) (c .if1 .taken)
 
--- src/flattening.rt:74:22
 slice-aggregate-keep : tie.Need-slice-aggregate-keep
 slice-aggregate-keep c = search needs
 
--- src/flattening.rt:74:9
 keep-requires : tie.Need-keep-requires
 keep-requires c κs = search needs
 
--- src/flattening.rt:76:53
 slice-relend-prefix-draft : tie.Need-slice-relend-prefix-draft
 slice-relend-prefix-draft c = search needs
 
--- src/flattening.rt:76:53
 slice-aggregate-draft-2 : tie.Need-slice-aggregate-draft-2
 slice-aggregate-draft-2 c = sym (length-take-le _ _ (c .before .before .if1 .left))
 
--- src/flattening.rt:76:9
 draft-requires-2 : tie.Need-draft-requires-2
 draft-requires-2 c κs = search needs
 
--- src/flattening.rt:54:1
 same-length : tie.Need-same-length
 same-length c = search needs
 
--- src/flattening.rt:54:1
 returns-3 : tie.Need-returns-3
 returns-3 c =
     let at-if = c .before .before .before .before .before .before in
@@ -89,11 +77,9 @@ returns-3 c =
     by-held _ _ _ _ (accepted at-verdict) (at-if .if1 .left) _ (at-verdict .before .before .before .draft .ensures .1) (omega arith) _
     (c .before .before .keep .ensures)
 
--- src/flattening.rt:54:1
 same-length-2 : tie.Need-same-length-2
 same-length-2 c = search needs
 
--- src/flattening.rt:54:1
 returns-4 : tie.Need-returns-4
 returns-4 c =
     let at-if = c .before .before .before .before .before in

@@ -42,11 +42,9 @@ arm c x e =
 small-budget : (c : tie.At-loop Inv-loop μ-loop) → c .before .before .before .before .args .by .budget ≤ 4294967295
 small-budget c = let x = c .before .before .before .before .good in omega (arith, x)
 
--- src/stretch.rt:60:5
 loop-holds : tie.Need-loop-holds Inv-loop μ-loop
 loop-holds c = (refl, refl, le-refl _, λ g x. x)
 
--- src/stretch.rt:61:15
 look-requires : tie.Need-look-requires Inv-loop μ-loop
 look-requires c κs = let f = safe _ _ _ _ _ _ _ _ _ _ (turn-at c) in (f .hinted, omega arith)
 
@@ -55,40 +53,32 @@ look-requires c κs = let f = safe _ _ _ _ _ _ _ _ _ _ (turn-at c) in (f .hinted
 short : (c : tie.After-next Inv-loop μ-loop) → let n = c .next .given .0 in Arm (c .before .before .before) (Short (n .0) (n .1 .0) (n .1 .1 .0))
 short c = arm (c .before .before) _ (c .next .given .1)
 
--- src/stretch.rt:63:28
 enum-known-next : tie.Need-enum-known-next Inv-loop μ-loop
 enum-known-next c = search needs
 
--- src/stretch.rt:64:17
 put-two-requires : tie.Need-put-two-requires Inv-loop μ-loop
 put-two-requires c κs = let a = short (c .before .before) in omega (arith, a .numbers, a .looked .0 .0)
 
--- src/stretch.rt:66:32
 pack-short-requires : tie.Need-pack-short-requires Inv-loop μ-loop
 pack-short-requires c κs = tt
 
--- src/stretch.rt:66:17
 mul-stack : tie.Need-mul-stack Inv-loop μ-loop
 mul-stack c =
     let a = short (c .before .before .before .before .before .before) in omega (arith, a .numbers, a .fits, a .looked .0 .2)
 
--- src/stretch.rt:66:17
 slice-write-stack : tie.Need-slice-write-stack Inv-loop μ-loop
 slice-write-stack c =
     let a = short (c .before .before .before .before .before .before) in omega (arith, a .numbers, a .fits, a .looked .0 .2)
 
--- src/stretch.rt:67:44
 sub-push : tie.Need-sub-push Inv-loop μ-loop
 sub-push c =
     let a = short (c .before .before .before .before .before .before) in omega (arith, a .looked .0 .0)
 
--- src/stretch.rt:67:31
 add-push : tie.Need-add-push Inv-loop μ-loop
 add-push c =
     let at-arm = c .before .before .before .before .before .before .before in
     let a = short at-arm in omega (arith, a .numbers, a .looked .0 .0, small-budget (at-arm .before .before .before))
 
--- src/stretch.rt:67:17
 push-requires : tie.Need-push-requires Inv-loop μ-loop
 push-requires c κs =
     let at-arm = c .before .before .before .before .before .before .before in
@@ -96,12 +86,10 @@ push-requires c κs =
     let few = few-tokens _ _ (a .looked .0 .0 .within) (small-budget (at-arm .before .before .before)) in
     (few-operands _ _ (a .numbers .room) (a .numbers .few), a .numbers .tailed, few)
 
--- src/stretch.rt:60:5
 loop-less : tie.Need-loop-less Inv-loop μ-loop
 loop-less c =
     let a = short (c .before .before .before .before .before .before .before .before) in omega (arith, a .looked .0 .0)
 
--- src/stretch.rt:60:5
 loop-again : tie.Need-loop-again Inv-loop μ-loop
 loop-again c =
     let at-pack = c .before .before in
@@ -121,26 +109,21 @@ loop-again c =
 clears : (c : tie.After-next2 Inv-loop μ-loop) → let n = c .next2 .given .0 in Arm (c .before .before .before) (Clears (n .0) (n .1 .0) (n .1 .1 .0))
 clears c = arm (c .before .before) _ (c .next2 .given .1)
 
--- src/stretch.rt:70:29
 enum-known-next-2 : tie.Need-enum-known-next-2 Inv-loop μ-loop
 enum-known-next-2 c = search needs
 
--- src/stretch.rt:71:21
 put-operator-requires : tie.Need-put-operator-requires Inv-loop μ-loop
 put-operator-requires c κs = let a = clears (c .before .before) in omega (arith, a .numbers, a .looked .0 .begun)
 
--- src/stretch.rt:72:17
 clear-requires : tie.Need-clear-requires Inv-loop μ-loop
 clear-requires c κs =
     let at-arm = c .before .before .before .before .before in
     few-tokens _ _ (clears at-arm .looked .0 .begun .within) (small-budget (at-arm .before .before .before))
 
--- src/stretch.rt:60:5
 loop-less-2 : tie.Need-loop-less-2 Inv-loop μ-loop
 loop-less-2 c =
     let a = clears (c .before .before .before .before .before .before) in omega (arith, a .looked .0 .begun)
 
--- src/stretch.rt:60:5
 loop-again-2 : tie.Need-loop-again-2 Inv-loop μ-loop
 loop-again-2 c =
     let at-put = c .before .before .before in
@@ -159,29 +142,23 @@ loop-again-2 c =
 pushes : (c : tie.After-next3 Inv-loop μ-loop) → let n = c .next3 .given .0 in Arm (c .before .before .before) (Push (n .0) (n .1 .0))
 pushes c = arm (c .before .before) _ (c .next3 .given .1)
 
--- src/stretch.rt:75:27
 enum-known-next-3 : tie.Need-enum-known-next-3 Inv-loop μ-loop
 enum-known-next-3 c = search needs
 
--- src/stretch.rt:76:21
 put-operand-requires : tie.Need-put-operand-requires Inv-loop μ-loop
 put-operand-requires c κs = let a = pushes (c .before .before) in omega (arith, a .numbers, a .looked .0)
 
--- src/stretch.rt:78:32
 pack-requires : tie.Need-pack-requires Inv-loop μ-loop
 pack-requires c κs = tt
 
--- src/stretch.rt:78:17
 mul-stack-2 : tie.Need-mul-stack-2 Inv-loop μ-loop
 mul-stack-2 c =
     let a = pushes (c .before .before .before .before .before .before) in omega (arith, a .numbers, a .fits, a .looked .2)
 
--- src/stretch.rt:78:17
 slice-write-stack-2 : tie.Need-slice-write-stack-2 Inv-loop μ-loop
 slice-write-stack-2 c =
     let a = pushes (c .before .before .before .before .before .before) in omega (arith, a .numbers, a .fits, a .looked .2)
 
--- src/stretch.rt:79:17
 push-requires-2 : tie.Need-push-requires-2 Inv-loop μ-loop
 push-requires-2 c κs =
     let at-arm = c .before .before .before .before .before .before in
@@ -189,12 +166,10 @@ push-requires-2 c κs =
     let few = few-tokens _ _ (a .looked .0 .within) (small-budget (at-arm .before .before .before)) in
     (few-operands _ _ (a .numbers .room) (a .numbers .few), a .numbers .tailed, few)
 
--- src/stretch.rt:60:5
 loop-less-3 : tie.Need-loop-less-3 Inv-loop μ-loop
 loop-less-3 c =
     let a = pushes (c .before .before .before .before .before .before .before) in omega (arith, a .looked .0)
 
--- src/stretch.rt:60:5
 loop-again-3 : tie.Need-loop-again-3 Inv-loop μ-loop
 loop-again-3 c =
     let at-pack = c .before in
@@ -216,27 +191,21 @@ masks : (c : tie.After-a Inv-loop μ-loop) → let n = c .a .given .0 in
     Arm (c .before .before .before) (Masks (n .0) (n .1 .0) (n .1 .1 .0) (n .1 .1 .1 .0) (n .1 .1 .1 .1 .0))
 masks c = arm (c .before .before) _ (c .a .given .1)
 
--- src/stretch.rt:82:28
 enum-known-a : tie.Need-enum-known-a Inv-loop μ-loop
 enum-known-a c = search needs
 
--- src/stretch.rt:83:21
 put-operator-requires-2 : tie.Need-put-operator-requires-2 Inv-loop μ-loop
 put-operator-requires-2 c κs = let a = masks (c .before .before) in omega (arith, a .numbers, a .looked .0 .begun)
 
--- src/stretch.rt:84:53
 sub-put-bytes : tie.Need-sub-put-bytes Inv-loop μ-loop
 sub-put-bytes c = masks (c .before .before .before .before .before .before) .looked .3
 
--- src/stretch.rt:84:53
 part-put-bytes-start : tie.Need-part-put-bytes-start Inv-loop μ-loop
 part-put-bytes-start c = masks (c .before .before .before .before .before .before) .looked .3
 
--- src/stretch.rt:84:53
 part-put-bytes-end : tie.Need-part-put-bytes-end Inv-loop μ-loop
 part-put-bytes-end c = masks (c .before .before .before .before .before .before) .looked .4
 
--- src/stretch.rt:84:21
 put-bytes-requires : tie.Need-put-bytes-requires Inv-loop μ-loop
 put-bytes-requires c κs =
     let at-put = c .before .before .before .before in
@@ -245,23 +214,19 @@ put-bytes-requires c κs =
     let few = small-budget (at-arm .before .before .before) in
     omega (arith, a .numbers, a .looked .0 .begun, few, at-put .put-operator2 .ensures .0, operator-two (at-arm .a .given .0 .1 .1 .1 .1 .0))
 
--- src/stretch.rt:85:45
 sub-mask : tie.Need-sub-mask Inv-loop μ-loop
 sub-mask c = masks (c .before .before .before .before .before .before .before .before .before .before) .looked .3
 
--- src/stretch.rt:85:17
 mask-requires : tie.Need-mask-requires Inv-loop μ-loop
 mask-requires c κs =
     let at-arm = c .before .before .before .before .before .before .before .before .before .before in
     few-tokens _ _ (masks at-arm .looked .0 .begun .within) (small-budget (at-arm .before .before .before))
 
--- src/stretch.rt:60:5
 loop-less-4 : tie.Need-loop-less-4 Inv-loop μ-loop
 loop-less-4 c =
     let a = masks (c .before .before .before .before .before .before .before .before .before .before .before) in
     omega (arith, a .looked .0 .begun, a .looked .3, a .looked .4)
 
--- src/stretch.rt:60:5
 loop-again-4 : tie.Need-loop-again-4 Inv-loop μ-loop
 loop-again-4 c =
     let at-bytes = c .before .before .before in
@@ -279,44 +244,34 @@ loop-again-4 c =
 
 -- ---- the ends
 
--- src/stretch.rt:88:28
 enum-known-next-4 : tie.Need-enum-known-next-4 Inv-loop μ-loop
 enum-known-next-4 c = search needs
 
--- src/stretch.rt:89:17
 same-length : tie.Need-same-length Inv-loop μ-loop
 same-length c = c .before .before .before .before .loop .inv .0
 
--- src/stretch.rt:89:17
 same-length-2 : tie.Need-same-length-2 Inv-loop μ-loop
 same-length-2 c = c .before .before .before .before .loop .inv .1
 
--- src/stretch.rt:89:17
 returns : tie.Need-returns Inv-loop μ-loop
 returns c = let a = arm (c .before .before .before) (Calls _ _) (c .before .next4 .given .1) in arm-call _ _ _ _ _ _ _ _ _ _ (a .turn) _ _ (a .looked)
 
--- src/stretch.rt:95:30
 enum-told : tie.Need-enum-told Inv-loop μ-loop
 enum-told c = search needs
 
--- src/stretch.rt:95:30
 go-back-requires : tie.Need-go-back-requires Inv-loop μ-loop
 go-back-requires c κs =
     let a = arm (c .before .before) Returns (c .enum-told .given .1) in few-tokens _ _ (a .looked .2 .begun .within) (small-budget (c .before .before .before))
 
--- src/stretch.rt:95:17
 ended-requires : tie.Need-ended-requires Inv-loop μ-loop
 ended-requires c κs = tt
 
--- src/stretch.rt:95:17
 same-length-3 : tie.Need-same-length-3 Inv-loop μ-loop
 same-length-3 c = c .before .before .before .before .before .loop .inv .0
 
--- src/stretch.rt:95:17
 same-length-4 : tie.Need-same-length-4 Inv-loop μ-loop
 same-length-4 c = c .before .before .before .before .before .loop .inv .1
 
--- src/stretch.rt:95:17
 returns-2 : tie.Need-returns-2 Inv-loop μ-loop
 returns-2 c =
     let a = arm (c .before .before .before .before) Returns (c .before .before .enum-told .given .1) in
@@ -326,35 +281,28 @@ returns-2 c =
 ends : (c : tie.After-p Inv-loop μ-loop) → Arm (c .before .before .before) (Ends (c .p .given .0 .0))
 ends c = arm (c .before .before) _ (c .p .given .1)
 
--- src/stretch.rt:97:27
 enum-known-p : tie.Need-enum-known-p Inv-loop μ-loop
 enum-known-p c = search needs
 
--- src/stretch.rt:98:21
 put-operator-requires-3 : tie.Need-put-operator-requires-3 Inv-loop μ-loop
 put-operator-requires-3 c κs = let a = ends (c .before .before) in omega (arith, a .numbers, a .looked .1 .begun)
 
--- src/stretch.rt:99:30
 finish-requires : tie.Need-finish-requires Inv-loop μ-loop
 finish-requires c κs =
     let at-arm = c .before .before .before .before .before in
     few-tokens _ _ (ends at-arm .looked .1 .begun .within) (small-budget (at-arm .before .before .before))
 
--- src/stretch.rt:99:17
 ended-requires-2 : tie.Need-ended-requires-2 Inv-loop μ-loop
 ended-requires-2 c κs = tt
 
--- src/stretch.rt:99:17
 same-length-5 : tie.Need-same-length-5 Inv-loop μ-loop
 same-length-5 c = c .before .before .before .before .before .before .before .before .before .before .loop .inv .0
 
--- src/stretch.rt:99:17
 same-length-6 : tie.Need-same-length-6 Inv-loop μ-loop
 same-length-6 c =
     let at-put = c .before .before .before .before in
     at-put .put-operator3 .kept .0 ∙ at-put .before .before .before .before .before .before .loop .inv .1
 
--- src/stretch.rt:99:17
 returns-3 : tie.Need-returns-3 Inv-loop μ-loop
 returns-3 c =
     let p = c .before .before .before .before .put-operator3 in
@@ -362,44 +310,34 @@ returns-3 c =
     let is = c .ended2 .ensures ∙ ap (λ (y : State). record { st = y; stop = Finished Ended }) (c .before .finish .ensures) in
     arm-end _ _ _ _ _ _ _ _ _ _ (a .turn) _ _ _ _ is (a .looked) (p .ensures .1) (p .ensures .0)
 
--- src/stretch.rt:102:34
 enum-told-2 : tie.Need-enum-told-2 Inv-loop μ-loop
 enum-told-2 c = search needs
 
--- src/stretch.rt:102:17
 ended-requires-3 : tie.Need-ended-requires-3 Inv-loop μ-loop
 ended-requires-3 c κs = tt
 
--- src/stretch.rt:102:17
 same-length-7 : tie.Need-same-length-7 Inv-loop μ-loop
 same-length-7 c = c .before .before .before .before .loop .inv .0
 
--- src/stretch.rt:102:17
 same-length-8 : tie.Need-same-length-8 Inv-loop μ-loop
 same-length-8 c = c .before .before .before .before .loop .inv .1
 
--- src/stretch.rt:102:17
 returns-4 : tie.Need-returns-4 Inv-loop μ-loop
 returns-4 c =
     let a = arm (c .before .before .before) Empty (c .before .enum-told2 .given .1) in arm-out _ _ _ _ _ _ _ _ _ _ (a .turn) _ (c .ended3 .ensures) (a .looked)
 
--- src/stretch.rt:104:26
 enum-known-k : tie.Need-enum-known-k Inv-loop μ-loop
 enum-known-k c = search needs
 
--- src/stretch.rt:105:17
 ended-requires-4 : tie.Need-ended-requires-4 Inv-loop μ-loop
 ended-requires-4 c κs = tt
 
--- src/stretch.rt:105:17
 same-length-9 : tie.Need-same-length-9 Inv-loop μ-loop
 same-length-9 c = c .before .before .before .before .before .loop .inv .0
 
--- src/stretch.rt:105:17
 same-length-10 : tie.Need-same-length-10 Inv-loop μ-loop
 same-length-10 c = c .before .before .before .before .before .loop .inv .1
 
--- src/stretch.rt:105:17
 returns-5 : tie.Need-returns-5 Inv-loop μ-loop
 returns-5 c =
     let a = arm (c .before .before .before .before) (Bad _) (c .before .before .k .given .1) in
