@@ -1,8 +1,8 @@
 -- `ighzamrel_flatten` tells what `flatten` answers, and leaves what it leaves. Assumes nothing.
-use Rattle.ighzamrel.specs.ToldLaws.{tell-left, number-as}
 use Rattle.ighzamrel.specs.Told.{profileOf, tell}
-use Rattle.number.specs.Answer.{leaving}
-use Rattle.reading.specs.Answers.{flattened, flattening}
+use Rattle.ighzamrel.specs.ToldLaws.{tell-left, number-as}
+use Rattle.number.specs.Answer.{Answer, Outcome, leaving}
+use Rattle.reading.specs.Answers.{Flattening, flattened, flattening}
 use Rattle.reading.specs.Rules.{rulesOf}
 use Rattle.reading.specs.declared.Profile.{Profile}
 use mathlib.Core.Path.{_≡_, ap, _∙_}
@@ -10,14 +10,17 @@ use borrow.Author.Needs.{needs}
 use Rattle.ighzamrel.proofs.flattening.ighzamrel_flatten.Statement.{statement}
 use Rattle.ighzamrel.proofs.flattening.ighzamrel_flatten.Tie as tie
 
+abbrev start : tie.After-flatten → tie.Start
+start c = c .before .before .before .before .before .before .before
+
+abbrev asks : tie.After-flatten → Profile → Outcome (Answer Flattening)
+asks c p =
+    let a = start c .args in flattening (rulesOf p) (a .charstring .now) (a .globals .now) (a .locals .now) (a .budget) (a .out .now)
+
 -- by the profile that C's number stands for
 asked : (c : tie.After-flatten)
-    → leaving (flattened (c .flatten .result)) (c .flatten .last .1 .1 .1 .1 .1 .0)
-    ≡ flattening (rulesOf (profileOf (c .before .before .before .before .before .before .before .args .profile))) (c .before .before .before .before .before .before .before .args .charstring .now) (c .before .before .before .before .before .before .before .args .globals .now) (c .before .before .before .before .before .before .before .args .locals .now) (c .before .before .before .before .before .before .before .args .budget) (c .before .before .before .before .before .before .before .args .out .now)
-asked c =
-    c .flatten .ensures
-    ∙ ap (λ (p : Profile). flattening (rulesOf p) (c .before .before .before .before .before .before .before .args .charstring .now) (c .before .before .before .before .before .before .before .args .globals .now) (c .before .before .before .before .before .before .before .args .locals .now) (c .before .before .before .before .before .before .before .args .budget) (c .before .before .before .before .before .before .before .args .out .now))
-    (c .before .before .profile-of .ensures)
+    → leaving (flattened (c .flatten .result)) (c .flatten .last .1 .1 .1 .1 .1 .0) ≡ asks c (profileOf (start c .args .profile))
+asked c = c .flatten .ensures ∙ ap (asks c) (c .before .before .profile-of .ensures)
 
 profile-of-requires : tie.Need-profile-of-requires
 profile-of-requires c κs = search needs
@@ -60,35 +63,44 @@ same-length c = search needs
 
 returns : tie.Need-returns
 unfolding tell
-returns c = tell-left _ _ flattened _ (c .before .before .flattened .given .1) _ (c .number .ensures) (asked (c .before .before .before .before .before .before))
+returns c =
+    tell-left _ _ flattened _ (c .before .before .flattened .given .1) _ (c .number .ensures) (asked (c .before .before .before .before .before .before))
 
 same-length-2 : tie.Need-same-length-2
 same-length-2 c = search needs
 
 returns-2 : tie.Need-returns-2
 unfolding tell
-returns-2 c = tell-left _ _ flattened _ (c .before .enum-told .given .1) _ (number-as flattened (c .before .enum-told .given .1) (c .number2 .ensures)) (asked (c .before .before .before .before .before))
+returns-2 c =
+    tell-left _ _ flattened _ (c .before .enum-told .given .1) _ (number-as flattened (c .before .enum-told .given .1) (c .number2 .ensures))
+    (asked (c .before .before .before .before .before))
 
 same-length-3 : tie.Need-same-length-3
 same-length-3 c = search needs
 
 returns-3 : tie.Need-returns-3
 unfolding tell
-returns-3 c = tell-left _ _ flattened _ (c .before .enum-told2 .given .1) _ (number-as flattened (c .before .enum-told2 .given .1) (c .number3 .ensures)) (asked (c .before .before .before .before .before))
+returns-3 c =
+    tell-left _ _ flattened _ (c .before .enum-told2 .given .1) _ (number-as flattened (c .before .enum-told2 .given .1) (c .number3 .ensures))
+    (asked (c .before .before .before .before .before))
 
 same-length-4 : tie.Need-same-length-4
 same-length-4 c = search needs
 
 returns-4 : tie.Need-returns-4
 unfolding tell
-returns-4 c = tell-left _ _ flattened _ (c .before .before .flattened2 .given .1) _ (c .number4 .ensures) (asked (c .before .before .before .before .before .before))
+returns-4 c =
+    tell-left _ _ flattened _ (c .before .before .flattened2 .given .1) _ (c .number4 .ensures)
+    (asked (c .before .before .before .before .before .before))
 
 same-length-5 : tie.Need-same-length-5
 same-length-5 c = search needs
 
 returns-5 : tie.Need-returns-5
 unfolding tell
-returns-5 c = tell-left _ _ flattened _ (c .before .before .flattened3 .given .1) _ (c .number5 .ensures) (asked (c .before .before .before .before .before .before))
+returns-5 c =
+    tell-left _ _ flattened _ (c .before .before .flattened3 .given .1) _ (c .number5 .ensures)
+    (asked (c .before .before .before .before .before .before))
 
 pub ighzamrel-flatten-spec : {M : Type 1} → statement M
 ighzamrel-flatten-spec =

@@ -39,15 +39,21 @@ returns c = tell-known _ _ entryRead _ (c .before .before .read .given .1) (c .n
 
 returns-2 : tie.Need-returns-2
 unfolding tell
-returns-2 c = tell-known _ _ entryRead _ (c .before .enum-told .given .1) (number-as entryRead (c .before .enum-told .given .1) (c .number2 .ensures)) (c .before .before .before .read-entry .ensures)
+returns-2 c =
+    tell-known _ _ entryRead _ (c .before .enum-told .given .1) (number-as entryRead (c .before .enum-told .given .1) (c .number2 .ensures))
+    (c .before .before .before .read-entry .ensures)
 
 returns-3 : tie.Need-returns-3
 unfolding tell
-returns-3 c = tell-known _ _ entryRead _ (c .before .enum-told2 .given .1) (number-as entryRead (c .before .enum-told2 .given .1) (c .number3 .ensures)) (c .before .before .before .read-entry .ensures)
+returns-3 c =
+    tell-known _ _ entryRead _ (c .before .enum-told2 .given .1) (number-as entryRead (c .before .enum-told2 .given .1) (c .number3 .ensures))
+    (c .before .before .before .read-entry .ensures)
 
 returns-4 : tie.Need-returns-4
 unfolding tell
-returns-4 c = tell-known _ _ entryRead _ (c .before .enum-told3 .given .1) (number-as entryRead (c .before .enum-told3 .given .1) (c .number4 .ensures)) (c .before .before .before .read-entry .ensures)
+returns-4 c =
+    tell-known _ _ entryRead _ (c .before .enum-told3 .given .1) (number-as entryRead (c .before .enum-told3 .given .1) (c .number4 .ensures))
+    (c .before .before .before .read-entry .ensures)
 
 pub ighzamrel-read-entry-spec : {M : Type 1} → statement M
 ighzamrel-read-entry-spec =

@@ -33,11 +33,15 @@ returns c = tell-known _ _ indexRead _ (c .before .before .read .given .1) (c .n
 
 returns-2 : tie.Need-returns-2
 unfolding tell
-returns-2 c = tell-known _ _ indexRead _ (c .before .enum-told .given .1) (number-as indexRead (c .before .enum-told .given .1) (c .number2 .ensures)) (c .before .before .before .read-index .ensures)
+returns-2 c =
+    tell-known _ _ indexRead _ (c .before .enum-told .given .1) (number-as indexRead (c .before .enum-told .given .1) (c .number2 .ensures))
+    (c .before .before .before .read-index .ensures)
 
 returns-3 : tie.Need-returns-3
 unfolding tell
-returns-3 c = tell-known _ _ indexRead _ (c .before .enum-told2 .given .1) (number-as indexRead (c .before .enum-told2 .given .1) (c .number3 .ensures)) (c .before .before .before .read-index .ensures)
+returns-3 c =
+    tell-known _ _ indexRead _ (c .before .enum-told2 .given .1) (number-as indexRead (c .before .enum-told2 .given .1) (c .number3 .ensures))
+    (c .before .before .before .read-index .ensures)
 
 pub ighzamrel-read-index-spec : {M : Type 1} → statement M
 ighzamrel-read-index-spec =

@@ -44,35 +44,45 @@ same-length c = search needs
 
 returns : tie.Need-returns
 unfolding tell
-returns c = tell-left _ _ indexWritten _ (c .before .before .written .given .1) _ (c .number .ensures) (c .before .before .before .before .before .before .write-index .ensures)
+returns c =
+    tell-left _ _ indexWritten _ (c .before .before .written .given .1) _ (c .number .ensures)
+    (c .before .before .before .before .before .before .write-index .ensures)
 
 same-length-2 : tie.Need-same-length-2
 same-length-2 c = search needs
 
 returns-2 : tie.Need-returns-2
 unfolding tell
-returns-2 c = tell-left _ _ indexWritten _ (c .before .before .written2 .given .1) _ (c .number2 .ensures) (c .before .before .before .before .before .before .write-index .ensures)
+returns-2 c =
+    tell-left _ _ indexWritten _ (c .before .before .written2 .given .1) _ (c .number2 .ensures)
+    (c .before .before .before .before .before .before .write-index .ensures)
 
 same-length-3 : tie.Need-same-length-3
 same-length-3 c = search needs
 
 returns-3 : tie.Need-returns-3
 unfolding tell
-returns-3 c = tell-left _ _ indexWritten _ (c .before .enum-told .given .1) _ (number-as indexWritten (c .before .enum-told .given .1) (c .number3 .ensures)) (c .before .before .before .before .before .write-index .ensures)
+returns-3 c =
+    tell-left _ _ indexWritten _ (c .before .enum-told .given .1) _ (number-as indexWritten (c .before .enum-told .given .1) (c .number3 .ensures))
+    (c .before .before .before .before .before .write-index .ensures)
 
 same-length-4 : tie.Need-same-length-4
 same-length-4 c = search needs
 
 returns-4 : tie.Need-returns-4
 unfolding tell
-returns-4 c = tell-left _ _ indexWritten _ (c .before .enum-told2 .given .1) _ (number-as indexWritten (c .before .enum-told2 .given .1) (c .number4 .ensures)) (c .before .before .before .before .before .write-index .ensures)
+returns-4 c =
+    tell-left _ _ indexWritten _ (c .before .enum-told2 .given .1) _ (number-as indexWritten (c .before .enum-told2 .given .1) (c .number4 .ensures))
+    (c .before .before .before .before .before .write-index .ensures)
 
 same-length-5 : tie.Need-same-length-5
 same-length-5 c = search needs
 
 returns-5 : tie.Need-returns-5
 unfolding tell
-returns-5 c = tell-left _ _ indexWritten _ (c .before .enum-told3 .given .1) _ (number-as indexWritten (c .before .enum-told3 .given .1) (c .number5 .ensures)) (c .before .before .before .before .before .write-index .ensures)
+returns-5 c =
+    tell-left _ _ indexWritten _ (c .before .enum-told3 .given .1) _ (number-as indexWritten (c .before .enum-told3 .given .1) (c .number5 .ensures))
+    (c .before .before .before .before .before .write-index .ensures)
 
 pub ighzamrel-write-index-spec : {M : Type 1} → statement M
 ighzamrel-write-index-spec =

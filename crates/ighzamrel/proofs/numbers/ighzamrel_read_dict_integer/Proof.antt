@@ -1,7 +1,7 @@
 -- `ighzamrel_read_dict_integer` tells what `read_dict_integer` answers: the two places hold what it gives, or stay. Assumes nothing.
+use Rattle.ighzamrel.specs.Told.{Told, told, tell, IntegerPlaces}
 use Rattle.ighzamrel.specs.ToldLaws.{tell-known, number-as}
 use Rattle.number.specs.Number.{numberRead}
-use Rattle.ighzamrel.specs.Told.{Told, told, tell, IntegerPlaces}
 use Rattle.number.proofs.Border.{moved}
 use Prim.Native.Nat.{ℕ}
 use lib.IntN.{ℤ}
@@ -11,7 +11,8 @@ use borrow.Author.Needs.{needs}
 use Rattle.ighzamrel.proofs.numbers.ighzamrel_read_dict_integer.Statement.{statement}
 use Rattle.ighzamrel.proofs.numbers.ighzamrel_read_dict_integer.Tie as tie
 
-placed : {z y : ℤ} {n w : ℕ} → z ≡ y → _≡_ {A = Told IntegerPlaces} (told n (record { value = z; width = w })) (told n (record { value = y; width = w }))
+placed : {z y : ℤ} {n w : ℕ} → z ≡ y
+    → _≡_ {A = Told IntegerPlaces} (told n (record { value = z; width = w })) (told n (record { value = y; width = w }))
 placed h = cc
 
 read-dict-integer-requires : tie.Need-read-dict-integer-requires
@@ -37,15 +38,22 @@ number-requires-3 c κs = search needs
 
 returns : tie.Need-returns
 unfolding tell
-returns c = placed (moved (c .before .before .before .read .given .0 .0 .value) (omega arith) refl) ∙ tell-known _ _ numberRead _ (c .before .before .before .read .given .1) (c .number .ensures) (c .before .before .before .before .before .read-dict-integer .ensures)
+returns c =
+    placed (moved (c .before .before .before .read .given .0 .0 .value) (omega arith) refl)
+    ∙ tell-known _ _ numberRead _ (c .before .before .before .read .given .1) (c .number .ensures)
+    (c .before .before .before .before .before .read-dict-integer .ensures)
 
 returns-2 : tie.Need-returns-2
 unfolding tell
-returns-2 c = tell-known _ _ numberRead _ (c .before .enum-told .given .1) (number-as numberRead (c .before .enum-told .given .1) (c .number2 .ensures)) (c .before .before .before .read-dict-integer .ensures)
+returns-2 c =
+    tell-known _ _ numberRead _ (c .before .enum-told .given .1) (number-as numberRead (c .before .enum-told .given .1) (c .number2 .ensures))
+    (c .before .before .before .read-dict-integer .ensures)
 
 returns-3 : tie.Need-returns-3
 unfolding tell
-returns-3 c = tell-known _ _ numberRead _ (c .before .enum-told2 .given .1) (number-as numberRead (c .before .enum-told2 .given .1) (c .number3 .ensures)) (c .before .before .before .read-dict-integer .ensures)
+returns-3 c =
+    tell-known _ _ numberRead _ (c .before .enum-told2 .given .1) (number-as numberRead (c .before .enum-told2 .given .1) (c .number3 .ensures))
+    (c .before .before .before .read-dict-integer .ensures)
 
 pub ighzamrel-read-dict-integer-spec : {M : Type 1} → statement M
 ighzamrel-read-dict-integer-spec =

@@ -1,6 +1,6 @@
 -- `ighzamrel_write_charstring_number` tells what `write_charstring_number` answers, and leaves what it leaves. Assumes nothing.
-use Rattle.ighzamrel.specs.ToldLaws.{tell-left, number-as}
 use Rattle.ighzamrel.specs.Told.{operandOf, tell}
+use Rattle.ighzamrel.specs.ToldLaws.{tell-left, number-as}
 use Rattle.number.specs.Answer.{leaving}
 use Rattle.number.specs.Number.{charstringRows}
 use Rattle.number.specs.Written.{write, numberWritten}
@@ -12,13 +12,16 @@ use borrow.Author.Needs.{needs}
 use Rattle.ighzamrel.proofs.numbers.ighzamrel_write_charstring_number.Statement.{statement}
 use Rattle.ighzamrel.proofs.numbers.ighzamrel_write_charstring_number.Tie as tie
 
+abbrev start : tie.After-write-charstring-number → tie.Start
+start c = c .before .before .before .before
+
 asked : (c : tie.After-write-charstring-number)
     → leaving (numberWritten (c .write-charstring-number .result)) (c .write-charstring-number .last .1 .0)
-    ≡ write charstringRows (operandOf (c .before .before .before .before .args .kind) (c .before .before .before .before .args .value)) (c .before .before .before .before .args .out .now)
+    ≡ write charstringRows (operandOf (start c .args .kind) (start c .args .value)) (start c .args .out .now)
 asked c =
     c .write-charstring-number .ensures
-    ∙ ap (λ (o : Operand). write charstringRows o (c .before .before .before .before .args .out .now))
-    (c .before .before .operand-of .ensures ∙ ap (operandOf (c .before .before .before .before .args .kind)) (moved (c .before .before .before .before .args .value) (omega arith) refl))
+    ∙ ap (λ (o : Operand). write charstringRows o (start c .args .out .now))
+    (c .before .before .operand-of .ensures ∙ ap (operandOf (start c .args .kind)) (moved (start c .args .value) (omega arith) refl))
 
 operand-of-requires : tie.Need-operand-of-requires
 operand-of-requires c κs = search needs
@@ -49,21 +52,27 @@ same-length c = search needs
 
 returns : tie.Need-returns
 unfolding tell
-returns c = tell-left _ _ numberWritten _ (c .before .before .written .given .1) _ (c .number .ensures) (asked (c .before .before .before .before .before .before))
+returns c =
+    tell-left _ _ numberWritten _ (c .before .before .written .given .1) _ (c .number .ensures)
+    (asked (c .before .before .before .before .before .before))
 
 same-length-2 : tie.Need-same-length-2
 same-length-2 c = search needs
 
 returns-2 : tie.Need-returns-2
 unfolding tell
-returns-2 c = tell-left _ _ numberWritten _ (c .before .before .written2 .given .1) _ (c .number2 .ensures) (asked (c .before .before .before .before .before .before))
+returns-2 c =
+    tell-left _ _ numberWritten _ (c .before .before .written2 .given .1) _ (c .number2 .ensures)
+    (asked (c .before .before .before .before .before .before))
 
 same-length-3 : tie.Need-same-length-3
 same-length-3 c = search needs
 
 returns-3 : tie.Need-returns-3
 unfolding tell
-returns-3 c = tell-left _ _ numberWritten _ (c .before .enum-told .given .1) _ (number-as numberWritten (c .before .enum-told .given .1) (c .number3 .ensures)) (asked (c .before .before .before .before .before))
+returns-3 c =
+    tell-left _ _ numberWritten _ (c .before .enum-told .given .1) _ (number-as numberWritten (c .before .enum-told .given .1) (c .number3 .ensures))
+    (asked (c .before .before .before .before .before))
 
 pub ighzamrel-write-charstring-number-spec : {M : Type 1} → statement M
 ighzamrel-write-charstring-number-spec =

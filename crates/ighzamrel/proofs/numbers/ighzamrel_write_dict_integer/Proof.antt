@@ -1,6 +1,6 @@
 -- `ighzamrel_write_dict_integer` tells what `write_dict_integer` answers, and leaves what it leaves. Assumes nothing.
-use Rattle.ighzamrel.specs.ToldLaws.{tell-left}
 use Rattle.ighzamrel.specs.Told.{tell}
+use Rattle.ighzamrel.specs.ToldLaws.{tell-left}
 use Rattle.number.specs.Answer.{leaving}
 use Rattle.number.specs.Number.{dictRows}
 use Rattle.number.specs.Written.{integer, write, integerWritten}
@@ -12,12 +12,15 @@ use borrow.Author.Needs.{needs}
 use Rattle.ighzamrel.proofs.numbers.ighzamrel_write_dict_integer.Statement.{statement}
 use Rattle.ighzamrel.proofs.numbers.ighzamrel_write_dict_integer.Tie as tie
 
+abbrev start : tie.After-write-dict-integer → tie.Start
+start c = c .before .before .before
+
 asked : (c : tie.After-write-dict-integer)
     → leaving (integerWritten (c .write-dict-integer .result)) (c .write-dict-integer .last .1 .0)
-    ≡ write dictRows (integer (c .before .before .before .args .value)) (c .before .before .before .args .out .now)
+    ≡ write dictRows (integer (start c .args .value)) (start c .args .out .now)
 asked c =
     c .write-dict-integer .ensures
-    ∙ ap (λ (z : ℤ). write dictRows (integer z) (c .before .before .before .args .out .now)) (moved (c .before .before .before .args .value) (omega arith) refl)
+    ∙ ap (λ (z : ℤ). write dictRows (integer z) (start c .args .out .now)) (moved (start c .args .value) (omega arith) refl)
 
 write-dict-integer-requires : tie.Need-write-dict-integer-requires
 write-dict-integer-requires c κs = search needs
@@ -39,14 +42,18 @@ same-length c = search needs
 
 returns : tie.Need-returns
 unfolding tell
-returns c = tell-left _ _ integerWritten _ (c .before .before .written .given .1) _ (c .number .ensures) (asked (c .before .before .before .before .before .before))
+returns c =
+    tell-left _ _ integerWritten _ (c .before .before .written .given .1) _ (c .number .ensures)
+    (asked (c .before .before .before .before .before .before))
 
 same-length-2 : tie.Need-same-length-2
 same-length-2 c = search needs
 
 returns-2 : tie.Need-returns-2
 unfolding tell
-returns-2 c = tell-left _ _ integerWritten _ (c .before .before .written2 .given .1) _ (c .number2 .ensures) (asked (c .before .before .before .before .before .before))
+returns-2 c =
+    tell-left _ _ integerWritten _ (c .before .before .written2 .given .1) _ (c .number2 .ensures)
+    (asked (c .before .before .before .before .before .before))
 
 pub ighzamrel-write-dict-integer-spec : {M : Type 1} → statement M
 ighzamrel-write-dict-integer-spec =

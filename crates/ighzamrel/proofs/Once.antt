@@ -1,0 +1,97 @@
+-- Each C function's contract fixes its answer and what it leaves at each place. Assumes nothing.
+use mathlib.Core.Path.{_≡_, sym, ap, _∙_}
+use Prim.Native.Nat.{ℕ}
+use lib.IntN.{ℤ}
+use borrow.Fn.Kinds.{Dens, resT, endedOf}
+use contract.Lifetimes.{Lfts}
+use denote.Triple.Clauses.{AtExit}
+use Rattle.number.specs.Answer.{Outcome}
+use Rattle.index.specs.Index.{Extent, Place}
+use Rattle.ighzamrel.specs.Told.{Told, NumberPlaces, IntegerPlaces, FlatPlaces}
+use Rattle.ighzamrel.proofs.numbers.ighzamrel_read_charstring_number.Kinds as charstring-kinds
+use Rattle.ighzamrel.proofs.numbers.ighzamrel_read_charstring_number.Reads as charstring-reads
+use Rattle.ighzamrel.proofs.numbers.ighzamrel_read_dict_integer.Kinds as dict-kinds
+use Rattle.ighzamrel.proofs.numbers.ighzamrel_read_dict_integer.Reads as dict-reads
+use Rattle.ighzamrel.proofs.numbers.ighzamrel_write_charstring_number.Kinds as charstring-write-kinds
+use Rattle.ighzamrel.proofs.numbers.ighzamrel_write_charstring_number.Reads as charstring-write-reads
+use Rattle.ighzamrel.proofs.numbers.ighzamrel_write_dict_integer.Kinds as dict-write-kinds
+use Rattle.ighzamrel.proofs.numbers.ighzamrel_write_dict_integer.Reads as dict-write-reads
+use Rattle.ighzamrel.proofs.numbers.ighzamrel_call_index.Kinds as index-kinds
+use Rattle.ighzamrel.proofs.numbers.ighzamrel_call_index.Reads as index-reads
+use Rattle.ighzamrel.proofs.indexes.ighzamrel_read_index.Kinds as read-kinds
+use Rattle.ighzamrel.proofs.indexes.ighzamrel_read_index.Reads as read-reads
+use Rattle.ighzamrel.proofs.indexes.ighzamrel_read_entry.Kinds as entry-kinds
+use Rattle.ighzamrel.proofs.indexes.ighzamrel_read_entry.Reads as entry-reads
+use Rattle.ighzamrel.proofs.indexes.ighzamrel_write_index.Kinds as write-kinds
+use Rattle.ighzamrel.proofs.indexes.ighzamrel_write_index.Reads as write-reads
+use Rattle.ighzamrel.proofs.flattening.ighzamrel_flatten.Kinds as flatten-kinds
+use Rattle.ighzamrel.proofs.flattening.ighzamrel_flatten.Reads as flatten-reads
+
+-- Of x, what each parameter is at the end in their order: `x .0` is the first, `x .1 .0` the second, `x .1 .1 .0` the third, and so on.
+
+-- what a writer tells says the number, the room and the places
+written-once : {A : Type 0} {t t′ : Outcome (Told A)} → t ≡ t′
+    → (t .answer .number ≡ t′ .answer .number) × (t .left ≡ t′ .left) × (t .answer .places ≡ t′ .answer .places)
+written-once {A} e =
+    (ap (λ (t : Outcome (Told A)). t .answer .number) e, ap (λ (t : Outcome (Told A)). t .left) e, ap (λ (t : Outcome (Told A)). t .answer .places) e)
+
+pub read-charstring-number-once : (κs : Lfts 4) (a : Dens κs charstring-kinds.ps) (r r′ : resT charstring-kinds.r κs .Denot)
+    (x x′ : AtExit (endedOf 4 charstring-kinds.ps charstring-kinds.r) κs)
+    → charstring-reads.Post κs a r x → charstring-reads.Post κs a r′ x′
+    → (r ≡ r′) × (x .1 .0 .now ≡ x′ .1 .0 .now) × (x .1 .1 .0 .now ≡ x′ .1 .1 .0 .now) × (x .1 .1 .1 .0 .now ≡ x′ .1 .1 .1 .0 .now)
+read-charstring-number-once κs a r r′ x x′ p p′ =
+    let e = p ∙ sym p′ in (
+      ap (λ (t : Told NumberPlaces). t .number) e,
+      ap (λ (t : Told NumberPlaces). t .places .kind) e,
+      ap (λ (t : Told NumberPlaces). t .places .value) e,
+      ap (λ (t : Told NumberPlaces). t .places .width) e,
+    )
+
+pub read-dict-integer-once : (κs : Lfts 3) (a : Dens κs dict-kinds.ps) (r r′ : resT dict-kinds.r κs .Denot)
+    (x x′ : AtExit (endedOf 3 dict-kinds.ps dict-kinds.r) κs)
+    → dict-reads.Post κs a r x → dict-reads.Post κs a r′ x′ → (r ≡ r′) × (x .1 .0 .now ≡ x′ .1 .0 .now) × (x .1 .1 .0 .now ≡ x′ .1 .1 .0 .now)
+read-dict-integer-once κs a r r′ x x′ p p′ =
+    let e = p ∙ sym p′ in
+    (ap (λ (t : Told IntegerPlaces). t .number) e, ap (λ (t : Told IntegerPlaces). t .places .value) e, ap (λ (t : Told IntegerPlaces). t .places .width) e)
+
+pub write-charstring-number-once : (κs : Lfts 2) (a : Dens κs charstring-write-kinds.ps) (r r′ : resT charstring-write-kinds.r κs .Denot)
+    (x x′ : AtExit (endedOf 2 charstring-write-kinds.ps charstring-write-kinds.r) κs)
+    → charstring-write-reads.Post κs a r x → charstring-write-reads.Post κs a r′ x′
+    → (r ≡ r′) × (x .1 .1 .0 .now ≡ x′ .1 .1 .0 .now) × (x .1 .1 .1 .0 .now ≡ x′ .1 .1 .1 .0 .now)
+write-charstring-number-once κs a r r′ x x′ p p′ = written-once (p ∙ sym p′)
+
+pub write-dict-integer-once : (κs : Lfts 2) (a : Dens κs dict-write-kinds.ps) (r r′ : resT dict-write-kinds.r κs .Denot)
+    (x x′ : AtExit (endedOf 2 dict-write-kinds.ps dict-write-kinds.r) κs)
+    → dict-write-reads.Post κs a r x → dict-write-reads.Post κs a r′ x′ → (r ≡ r′) × (x .1 .0 .now ≡ x′ .1 .0 .now) × (x .1 .1 .0 .now ≡ x′ .1 .1 .0 .now)
+write-dict-integer-once κs a r r′ x x′ p p′ = written-once (p ∙ sym p′)
+
+pub call-index-once : (κs : Lfts 1) (a : Dens κs index-kinds.ps) (r r′ : resT index-kinds.r κs .Denot)
+    (x x′ : AtExit (endedOf 1 index-kinds.ps index-kinds.r) κs)
+    → index-reads.Post κs a r x → index-reads.Post κs a r′ x′ → (r ≡ r′) × (x .1 .1 .1 .0 .now ≡ x′ .1 .1 .1 .0 .now)
+call-index-once κs a r r′ x x′ p p′ = (ap (λ (t : Told ℤ). t .number) (p ∙ sym p′), ap (λ (t : Told ℤ). t .places) (p ∙ sym p′))
+
+pub read-index-once : (κs : Lfts 3) (a : Dens κs read-kinds.ps) (r r′ : resT read-kinds.r κs .Denot)
+    (x x′ : AtExit (endedOf 3 read-kinds.ps read-kinds.r) κs)
+    → read-reads.Post κs a r x → read-reads.Post κs a r′ x′ → (r ≡ r′) × (x .1 .0 .now ≡ x′ .1 .0 .now) × (x .1 .1 .0 .now ≡ x′ .1 .1 .0 .now)
+read-index-once κs a r r′ x x′ p p′ =
+    let e = p ∙ sym p′ in (ap (λ (t : Told Extent). t .number) e, ap (λ (t : Told Extent). t .places .entries) e, ap (λ (t : Told Extent). t .places .taken) e)
+
+pub read-entry-once : (κs : Lfts 3) (a : Dens κs entry-kinds.ps) (r r′ : resT entry-kinds.r κs .Denot)
+    (x x′ : AtExit (endedOf 3 entry-kinds.ps entry-kinds.r) κs)
+    → entry-reads.Post κs a r x → entry-reads.Post κs a r′ x′ → (r ≡ r′) × (x .1 .1 .0 .now ≡ x′ .1 .1 .0 .now) × (x .1 .1 .1 .0 .now ≡ x′ .1 .1 .1 .0 .now)
+read-entry-once κs a r r′ x x′ p p′ =
+    let e = p ∙ sym p′ in (ap (λ (t : Told Place). t .number) e, ap (λ (t : Told Place). t .places .start) e, ap (λ (t : Told Place). t .places .size) e)
+
+pub write-index-once : (κs : Lfts 4) (a : Dens κs write-kinds.ps) (r r′ : resT write-kinds.r κs .Denot)
+    (x x′ : AtExit (endedOf 4 write-kinds.ps write-kinds.r) κs)
+    → write-reads.Post κs a r x → write-reads.Post κs a r′ x′ → (r ≡ r′) × (x .1 .1 .0 .now ≡ x′ .1 .1 .0 .now) × (x .1 .1 .1 .0 .now ≡ x′ .1 .1 .1 .0 .now)
+write-index-once κs a r r′ x x′ p p′ = written-once (p ∙ sym p′)
+
+pub flatten-once : (κs : Lfts 4) (a : Dens κs flatten-kinds.ps) (r r′ : resT flatten-kinds.r κs .Denot)
+    (x x′ : AtExit (endedOf 4 flatten-kinds.ps flatten-kinds.r) κs)
+    → flatten-reads.Post κs a r x → flatten-reads.Post κs a r′ x′
+    → (r ≡ r′) × (x .1 .1 .1 .1 .1 .0 .now ≡ x′ .1 .1 .1 .1 .1 .0 .now) × (x .1 .1 .1 .1 .1 .1 .0 .now ≡ x′ .1 .1 .1 .1 .1 .1 .0 .now)
+    × (x .1 .1 .1 .1 .1 .1 .1 .0 .now ≡ x′ .1 .1 .1 .1 .1 .1 .1 .0 .now)
+flatten-once κs a r r′ x x′ p p′ =
+    let w = written-once (p ∙ sym p′) in
+    (w .0, w .1, ap (λ (y : FlatPlaces). y .length) (w .2), ap (λ (y : FlatPlaces). y .tokens) (w .2))
