@@ -1,6 +1,5 @@
 -- Each C function's contract fixes its answer and what it leaves at each place. Assumes nothing.
 use mathlib.Core.Path.{_≡_, sym, ap, _∙_}
-use Prim.Native.Nat.{ℕ}
 use lib.IntN.{ℤ}
 use borrow.Fn.Kinds.{Dens, resT, endedOf}
 use contract.Lifetimes.{Lfts}
