@@ -1,13 +1,12 @@
 -- Each C function's contract fixes its answer and what it leaves at each place. Assumes nothing.
 use mathlib.Core.Path.{_≡_, sym, ap, _∙_}
-use Prim.Native.Nat.{ℕ}
 use lib.IntN.{ℤ}
 use borrow.Fn.Kinds.{Dens, resT, endedOf}
 use contract.Lifetimes.{Lfts}
 use denote.Triple.Clauses.{AtExit}
+use Rattle.number.specs.Answer.{Outcome}
 use Rattle.index.specs.Index.{Extent, Place}
-use Rattle.reading.specs.Answers.{Flattening}
-use Rattle.ighzamrel.specs.Told.{Told, NumberPlaces, IntegerPlaces, Written}
+use Rattle.ighzamrel.specs.Told.{Told, NumberPlaces, IntegerPlaces, FlatPlaces}
 use Rattle.ighzamrel.proofs.numbers.ighzamrel_read_charstring_number.Kinds as charstring-kinds
 use Rattle.ighzamrel.proofs.numbers.ighzamrel_read_charstring_number.Reads as charstring-reads
 use Rattle.ighzamrel.proofs.numbers.ighzamrel_read_dict_integer.Kinds as dict-kinds
@@ -29,9 +28,11 @@ use Rattle.ighzamrel.proofs.flattening.ighzamrel_flatten.Reads as flatt
 
 -- Of x, what each parameter is at the end in their order: `x .0` is the first, `x .1 .0` the second, `x .1 .1 .0` the third, and so on.
 
--- what a writer told says the number, the room and the places
-written-once : {A : Type 0} {t t′ : Written A} → t ≡ t′ → (t .number ≡ t′ .number) × (t .left ≡ t′ .left) × (t .place ≡ t′ .place)
-written-once {A} e = (ap (λ (t : Written A). t .number) e, ap (λ (t : Written A). t .left) e, ap (λ (t : Written A). t .place) e)
+-- what a writer tells says the number, the room and the places
+written-once : {A : Type 0} {t t′ : Outcome (Told A)} → t ≡ t′
+    → (t .answer .number ≡ t′ .answer .number) × (t .left ≡ t′ .left) × (t .answer .places ≡ t′ .answer .places)
+written-once {A} e =
+    (ap (λ (t : Outcome (Told A)). t .answer .number) e, ap (λ (t : Outcome (Told A)). t .left) e, ap (λ (t : Outcome (Told A)). t .answer .places) e)
 
 pub read-charstring-number-once : (κs : Lfts 4) (a : Dens κs charstring-kinds.ps) (r r′ : resT charstring-kinds.r κs .Denot)
     (x x′ : AtExit (endedOf 4 charstring-kinds.ps charstring-kinds.r) κs)
@@ -40,9 +41,9 @@ pub read-charstring-number-once : (κs : Lfts 4) (a : Dens κs charstring-kinds.
 read-charstring-number-once κs a r r′ x x′ p p′ =
     let e = p ∙ sym p′ in (
       ap (λ (t : Told NumberPlaces). t .number) e,
-      ap (λ (t : Told NumberPlaces). t .place .kind) e,
-      ap (λ (t : Told NumberPlaces). t .place .value) e,
-      ap (λ (t : Told NumberPlaces). t .place .width) e,
+      ap (λ (t : Told NumberPlaces). t .places .kind) e,
+      ap (λ (t : Told NumberPlaces). t .places .value) e,
+      ap (λ (t : Told NumberPlaces). t .places .width) e,
     )
 
 pub read-dict-integer-once : (κs : Lfts 3) (a : Dens κs dict-kinds.ps) (r r′ : resT dict-kinds.r κs .Denot)
@@ -50,7 +51,7 @@ pub read-dict-integer-once : (κs : Lfts 3) (a : Dens κs dict-kinds.ps) (r r′
     → dict-reads.Post κs a r x → dict-reads.Post κs a r′ x′ → (r ≡ r′) × (x .1 .0 .now ≡ x′ .1 .0 .now) × (x .1 .1 .0 .now ≡ x′ .1 .1 .0 .now)
 read-dict-integer-once κs a r r′ x x′ p p′ =
     let e = p ∙ sym p′ in
-    (ap (λ (t : Told IntegerPlaces). t .number) e, ap (λ (t : Told IntegerPlaces). t .place .value) e, ap (λ (t : Told IntegerPlaces). t .place .width) e)
+    (ap (λ (t : Told IntegerPlaces). t .number) e, ap (λ (t : Told IntegerPlaces). t .places .value) e, ap (λ (t : Told IntegerPlaces). t .places .width) e)
 
 pub write-charstring-number-once : (κs : Lfts 2) (a : Dens κs charstring-write-kinds.ps) (r r′ : resT charstring-write-kinds.r κs .Denot)
     (x x′ : AtExit (endedOf 2 charstring-write-kinds.ps charstring-write-kinds.r) κs)
@@ -66,19 +67,19 @@ write-dict-integer-once κs a r r′ x x′ p p′ = written-once (p ∙ sym p�
 pub call-index-once : (κs : Lfts 1) (a : Dens κs index-kinds.ps) (r r′ : resT index-kinds.r κs .Denot)
     (x x′ : AtExit (endedOf 1 index-kinds.ps index-kinds.r) κs)
     → index-reads.Post κs a r x → index-reads.Post κs a r′ x′ → (r ≡ r′) × (x .1 .1 .1 .0 .now ≡ x′ .1 .1 .1 .0 .now)
-call-index-once κs a r r′ x x′ p p′ = (ap (λ (t : Told ℤ). t .number) (p ∙ sym p′), ap (λ (t : Told ℤ). t .place) (p ∙ sym p′))
+call-index-once κs a r r′ x x′ p p′ = (ap (λ (t : Told ℤ). t .number) (p ∙ sym p′), ap (λ (t : Told ℤ). t .places) (p ∙ sym p′))
 
 pub read-index-once : (κs : Lfts 3) (a : Dens κs read-kinds.ps) (r r′ : resT read-kinds.r κs .Denot)
     (x x′ : AtExit (endedOf 3 read-kinds.ps read-kinds.r) κs)
     → read-reads.Post κs a r x → read-reads.Post κs a r′ x′ → (r ≡ r′) × (x .1 .0 .now ≡ x′ .1 .0 .now) × (x .1 .1 .0 .now ≡ x′ .1 .1 .0 .now)
 read-index-once κs a r r′ x x′ p p′ =
-    let e = p ∙ sym p′ in (ap (λ (t : Told Extent). t .number) e, ap (λ (t : Told Extent). t .place .entries) e, ap (λ (t : Told Extent). t .place .taken) e)
+    let e = p ∙ sym p′ in (ap (λ (t : Told Extent). t .number) e, ap (λ (t : Told Extent). t .places .entries) e, ap (λ (t : Told Extent). t .places .taken) e)
 
 pub read-entry-once : (κs : Lfts 3) (a : Dens κs entry-kinds.ps) (r r′ : resT entry-kinds.r κs .Denot)
     (x x′ : AtExit (endedOf 3 entry-kinds.ps entry-kinds.r) κs)
     → entry-reads.Post κs a r x → entry-reads.Post κs a r′ x′ → (r ≡ r′) × (x .1 .1 .0 .now ≡ x′ .1 .1 .0 .now) × (x .1 .1 .1 .0 .now ≡ x′ .1 .1 .1 .0 .now)
 read-entry-once κs a r r′ x x′ p p′ =
-    let e = p ∙ sym p′ in (ap (λ (t : Told Place). t .number) e, ap (λ (t : Told Place). t .place .start) e, ap (λ (t : Told Place). t .place .size) e)
+    let e = p ∙ sym p′ in (ap (λ (t : Told Place). t .number) e, ap (λ (t : Told Place). t .places .start) e, ap (λ (t : Told Place). t .places .size) e)
 
 pub write-index-once : (κs : Lfts 4) (a : Dens κs write-kinds.ps) (r r′ : resT write-kinds.r κs .Denot)
     (x x′ : AtExit (endedOf 4 write-kinds.ps write-kinds.r) κs)
@@ -92,4 +93,4 @@ pub flatten-once : (κs : Lfts 4) (a : Dens κs flatten-kinds.ps) (r r′ : resT
     × (x .1 .1 .1 .1 .1 .1 .1 .0 .now ≡ x′ .1 .1 .1 .1 .1 .1 .1 .0 .now)
 flatten-once κs a r r′ x x′ p p′ =
     let w = written-once (p ∙ sym p′) in
-    (w .0, w .1, ap (λ (y : Flattening). y .size) (w .2), ap (λ (y : Flattening). y .tokens) (w .2))
+    (w .0, w .1, ap (λ (y : FlatPlaces). y .length) (w .2), ap (λ (y : FlatPlaces). y .tokens) (w .2))

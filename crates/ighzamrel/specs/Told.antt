@@ -1,13 +1,12 @@
--- What a C function answers, and what it leaves at the places that were lent to it.
+-- What a C function tells: its number, and what is at the places that were lent to it.
 use Prim.Native.Nat.{ℕ}
 use mathlib.Core.Bool.{Bool, true, false, not, cond}
-use mathlib.Core.List.{List, [], _∷_}
 use lib.IntN.{ℤ}
 use lib.Dec.{eqb}
-use Rattle.number.specs.Answer.{Answer, accepted, refused, Outcome}
+use Rattle.number.specs.Answer.{Values, Answer, accepted, refused, lengthOr, tokensOr, Outcome, leaving}
 use Rattle.number.specs.Number.{Number}
 use Rattle.number.specs.declared.Operand.{Operand}
-use Rattle.reading.specs.Answers.{Flattening, Outcome as Flat}
+use Rattle.reading.specs.Answers.{Flattening}
 use Rattle.reading.specs.declared.Profile.{Profile}
 use Rattle.reading.specs.declared.Profile.the-variants.{Plain, Strict}
 
@@ -26,25 +25,29 @@ operandOf kind value = record { fixed = nonzero kind; value = value }
 unfoldable pub profileOf : ℕ → Profile
 profileOf n = cond (eqb n 0) Plain Strict
 
--- ---- of a reader: the number, and what is at the place
+-- ---- what is told
 
--- A number of document 01, and what is at the place; of several places, a record of what is at each.
+-- A number of document 01, and what is at the places; of several places, a record of what is at each.
 pub record Told (A : Type 0) : Type 0 where
   pub number : ℕ
-  pub place : A
+  pub places : A
 
 abbrev pub told : {A : Type 0} → ℕ → A → Told A
-told n x = record { number = n; place = x }
+told n x = record { number = n; places = x }
 
--- accepted: 0 and the value; refused: the number, and each place as it was
-unfoldable pub tell : {A : Type 0} → Answer A → A → Told A
-tell (accepted x) old = told 0 x
-tell (refused n v) old = told n old
+-- accepted: 0, and what it makes of the places; refused: the number, and what the values that come with it make of them
+unfoldable pub tell : {A P : Type 0} → (P → A → P) → (P → Values → P) → Answer A → P → Told P
+tell given kept (accepted x) old = told 0 (given old x)
+tell given kept (refused n v) old = told n (kept old v)
 
--- what was accepted, as it lies at the places
-abbrev pub laid : {A B : Type 0} → (A → B) → Answer A → Answer B
-laid f (accepted x) = accepted (f x)
-laid f (refused n v) = refused n v
+-- ---- of a reader: a refusal leaves each place as it was
+
+abbrev pub tellRead : {A P : Type 0} → (A → P) → Answer A → P → Told P
+tellRead lay x old = tell (λ p y. lay y) (λ p v. p) x old
+
+-- places that hold what is accepted as it is
+abbrev pub asIs : {A : Type 0} → A → A
+asIs x = x
 
 pub record NumberPlaces : Type 0 where
   pub kind : ℕ
@@ -61,31 +64,20 @@ pub record IntegerPlaces : Type 0 where
 abbrev pub integerPlaces : Number → IntegerPlaces
 integerPlaces x = record { value = x .operand .value; width = x .width }
 
--- ---- of a writer: the number, what is at the places, and the room
+-- ---- of a writer: a refusal gives what it has for a place; and the room is as the writer leaves it
 
-pub record Written (A : Type 0) : Type 0 where
-  pub number : ℕ
-  pub place : A
-  pub left : List ℕ
+abbrev pub tellLength : Outcome (Answer ℕ) → ℕ → Outcome (Told ℕ)
+tellLength o old = leaving (tell (λ p n. n) lengthOr (o .answer) old) (o .left)
 
--- accepted: 0 and the value; refused: the number, and what its values make of the places
-unfoldable pub tellWritten : {A : Type 0} → (List ℕ → A → A) → Answer A → List ℕ → A → Written A
-tellWritten give (accepted x) left old = record { number = 0; place = x; left = left }
-tellWritten give (refused n v) left old = record { number = n; place = give v old; left = left }
+pub record FlatPlaces : Type 0 where
+  pub length : ℕ
+  pub tokens : ℕ
 
--- a refusal gives no value, or the length
-unfoldable pub lengthFrom : List ℕ → ℕ → ℕ
-lengthFrom [] old = old
-lengthFrom (n ∷ v) old = n
+abbrev pub flatPlaces : FlatPlaces → Flattening → FlatPlaces
+flatPlaces old x = record { length = x .size; tokens = x .tokens }
 
--- a refusal gives no value, the tokens, or the length and the tokens
-unfoldable pub sizesFrom : List ℕ → Flattening → Flattening
-sizesFrom [] old = old
-sizesFrom (t ∷ []) old = record { size = old .size; tokens = t }
-sizesFrom (n ∷ t ∷ v) old = record { size = n; tokens = t }
+abbrev pub flatPlacesOr : FlatPlaces → Values → FlatPlaces
+flatPlacesOr old v = record { length = lengthOr (old .length) v; tokens = tokensOr (old .tokens) v }
 
-abbrev pub tellLength : Outcome → ℕ → Written ℕ
-tellLength o old = tellWritten lengthFrom (o .answer) (o .left) old
-
-abbrev pub tellFlattening : Flat → Flattening → Written Flattening
-tellFlattening o old = tellWritten sizesFrom (o .answer) (o .left) old
+abbrev pub tellFlattening : Outcome (Answer Flattening) → FlatPlaces → Outcome (Told FlatPlaces)
+tellFlattening o old = leaving (tell flatPlaces flatPlacesOr (o .answer) old) (o .left)

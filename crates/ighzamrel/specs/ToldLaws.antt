@@ -2,22 +2,31 @@
 use mathlib.Core.Path.{_≡_, sym, ap, _∙_}
 use Prim.Native.Nat.{ℕ}
 use mathlib.Core.List.{List}
-use Rattle.number.specs.Answer.{Values, Answer, accepted, refused, Outcome}
-use Rattle.ighzamrel.specs.Told.{told, tell, tellLength}
+use Rattle.number.specs.Answer.{Values, Answer, accepted, refused, numberIn, Outcome, leaving}
+use Rattle.number.specs.AnswerLaws.{answer-as, left-as}
+use Rattle.ighzamrel.specs.Told.{Told, told, tell}
 
-pub tell-accepted : {A : Type 0} (a : Answer A) (x old : A) → accepted x ≡ a → told 0 x ≡ tell a old
-unfolding tell
-tell-accepted a x old e = ap (λ b. tell b old) e
+module _ {A P : Type 0} (given : P → A → P) (kept : P → Values → P) where
+  -- by the answer's number
+  numbered : {n : ℕ} (a : Answer A) (old : P) → n ≡ numberIn a → told n (tell given kept a old .places) ≡ tell given kept a old
+  unfolding tell
+  numbered (accepted x) old e = ap (λ (m : ℕ). told m (given old x)) e
+  numbered (refused k v) old e = ap (λ (m : ℕ). told m (kept old v)) e
 
-pub tell-refused : {A : Type 0} (a : Answer A) (old : A) (n : ℕ) (v : Values) → refused n v ≡ a → told n old ≡ tell a old
-unfolding tell
-tell-refused a old n v e = ap (λ b. tell b old) e
+  -- `says` is what a result says; the result r is known to be w
+  module _ {E : Type 0} (says : E → Answer A) {n : ℕ} {r w : E} (old : P) (k : r ≡ w) where
+    -- n is the number of w
+    pub tell-known : {a : Answer A} → n ≡ numberIn (says w) → says r ≡ a → told n (tell given kept (says w) old .places) ≡ tell given kept a old
+    tell-known {a} e h =
+        let is : says w ≡ a = ap says (sym k) ∙ h in
+        ap (λ (x : Answer A). told n (tell given kept x old .places)) is ∙ numbered a old (e ∙ ap numberIn is)
 
--- what is told of an outcome whose answer is known
-pub tell-known : {E O A W : Type 0} (tells : O → A → W) (says : E → List ℕ → O) {r w : E} {o : O} (left : List ℕ) (old : A)
-    → r ≡ w → says r left ≡ o → tells (says w left) old ≡ tells o old
-tell-known tells says left old e p = ap (λ x. tells x old) (ap (λ x. says x left) (sym e) ∙ p)
+    -- and with what is left in the room
+    pub tell-left : {o : Outcome (Answer A)} (left : List ℕ) → n ≡ numberIn (says w) → leaving (says r) left ≡ o
+        → leaving (told n (tell given kept (says w) old .places)) left ≡ leaving (tell given kept (o .answer) old) (o .left)
+    tell-left {o} left e h =
+        ap (λ (t : Told P). leaving t left) (tell-known e (answer-as h)) ∙ ap (λ (l : List ℕ). leaving (tell given kept (o .answer) old) l) (left-as h)
 
-pub tell-length : {E : Type 0} (answer : E → Answer ℕ) {r w : E} {o : Outcome} (left : List ℕ) (old : ℕ)
-    → r ≡ w → record { answer = answer r; left = left } ≡ o → tellLength (record { answer = answer w; left = left }) old ≡ tellLength o old
-tell-length answer left old e p = tell-known tellLength (λ x l. record { answer = answer x; left = l }) left old e p
+-- the number of a result that is known
+pub number-as : {E A : Type 0} (says : E → Answer A) {n : ℕ} {r w : E} → r ≡ w → n ≡ numberIn (says r) → n ≡ numberIn (says w)
+number-as says k e = e ∙ ap (λ x. numberIn (says x)) k

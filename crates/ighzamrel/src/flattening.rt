@@ -2,11 +2,11 @@
 use charstring::flatten;
 use reading::Flattened;
 use reading::Profile;
-use reading::number_of;
 ghost use mathlib.Core.Path.{_≡_};
 ghost use Rattle.reading.specs.Rules.{rulesOf};
 ghost use Rattle.reading.specs.Answers.{flattening};
-ghost use Rattle.ighzamrel.specs.Told.{profileOf, tellFlattening};
+ghost use Rattle.number.specs.Answer.{leaving};
+ghost use Rattle.ighzamrel.specs.Told.{profileOf, told, tellFlattening};
 
 // Flattens a charstring with its two subroutine lists into the start of out: 0, the flat string's
 // length and the tokens; 13 and the same two; 3 to 12 and the tokens; or 1 or 2.
@@ -21,31 +21,35 @@ pub extern "C" fn ighzamrel_flatten<'a>(
     length: &mut usize,
     tokens: &mut u32,
 ) -> u32
-    ensures { λ r. ⌜ record { number = r; place = record { size = now (length .exit); tokens = now (tokens .exit) }; left = now (out .exit) } ≡ tellFlattening (flattening (rulesOf (profileOf profile)) (now (charstring .entry)) (now (globals .entry)) (now (locals .entry)) budget (now (out .entry))) (record { size = now (length .entry); tokens = now (tokens .entry) }) ⌝ }
+    ensures { λ r. ⌜ leaving (told r (record { length = now (length .exit); tokens = now (tokens .exit) })) (now (out .exit))
+        ≡ tellFlattening
+        (flattening (rulesOf (profileOf profile)) (now (charstring .entry)) (now (globals .entry)) (now (locals .entry)) budget (now (out .entry)))
+        (record { length = now (length .entry); tokens = now (tokens .entry) }) ⌝ }
 {
-    match flatten(
+    let flattened = flatten(
         charstring,
         globals,
         locals,
         profile_of(profile),
         budget,
         out,
-    ) {
+    );
+    match flattened {
         Flattened::Accepted(n, count) => {
             *length = n;
             *tokens = count;
-            0
+            flattened.number()
         }
-        Flattened::BadGlobals => 1,
-        Flattened::BadLocals => 2,
-        Flattened::Refused(why, count) => {
+        Flattened::BadGlobals => flattened.number(),
+        Flattened::BadLocals => flattened.number(),
+        Flattened::Refused(_, count) => {
             *tokens = count;
-            number_of(why)
+            flattened.number()
         }
         Flattened::NoRoom(n, count) => {
             *length = n;
             *tokens = count;
-            13
+            flattened.number()
         }
     }
 }

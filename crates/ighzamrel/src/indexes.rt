@@ -1,6 +1,7 @@
 // An INDEX read, taken apart and written.
 use index::EntryRead;
 use index::IndexRead;
+use index::Width;
 use index::read_entry;
 use index::read_index;
 use index_writing::IndexWritten;
@@ -8,22 +9,25 @@ use index_writing::write_index;
 ghost use mathlib.Core.Path.{_≡_};
 ghost use Rattle.index.specs.Index.{extent, place as entryPlace};
 ghost use Rattle.index_writing.specs.Writing.{writeIndex};
-ghost use Rattle.ighzamrel.specs.Told.{told, tell, tellLength};
+ghost use Rattle.number.specs.Answer.{leaving};
+ghost use Rattle.ighzamrel.specs.Told.{told, asIs, tellRead, tellLength};
 
 // The INDEX at the start of the bytes: 0, how many entries it has and how many bytes it takes; or 20
 // or 21.
 #[no_mangle]
 pub extern "C" fn ighzamrel_read_index(bytes: &[u8], count: &mut u32, taken: &mut usize) -> u32
-    ensures { λ r. ⌜ told r (record { entries = now (count .exit); taken = now (taken .exit) }) ≡ tell (extent 2 (now (bytes .entry))) (record { entries = now (count .entry); taken = now (taken .entry) }) ⌝ }
+    ensures { λ r. ⌜ told r (record { entries = now (count .exit); taken = now (taken .exit) })
+        ≡ tellRead asIs (extent 2 (now (bytes .entry))) (record { entries = now (count .entry); taken = now (taken .entry) }) ⌝ }
 {
-    match read_index(bytes) {
+    let read = read_index(bytes, Width::Two);
+    match read {
         IndexRead::Read(n, reach) => {
             *count = n;
             *taken = reach;
-            0
+            read.number()
         }
-        IndexRead::Lacking => 20,
-        IndexRead::BadSize => 21,
+        IndexRead::Lacking => read.number(),
+        IndexRead::BadSize => read.number(),
     }
 }
 
@@ -36,17 +40,19 @@ pub extern "C" fn ighzamrel_read_entry(
     place: &mut usize,
     length: &mut usize,
 ) -> u32
-    ensures { λ r. ⌜ told r (record { start = now (place .exit); size = now (length .exit) }) ≡ tell (entryPlace 2 (now (bytes .entry)) number) (record { start = now (place .entry); size = now (length .entry) }) ⌝ }
+    ensures { λ r. ⌜ told r (record { start = now (place .exit); size = now (length .exit) })
+        ≡ tellRead asIs (entryPlace 2 (now (bytes .entry)) number) (record { start = now (place .entry); size = now (length .entry) }) ⌝ }
 {
-    match read_entry(bytes, number) {
+    let read = read_entry(bytes, Width::Two, number);
+    match read {
         EntryRead::Entry(at, n) => {
             *place = at;
             *length = n;
-            0
+            read.number()
         }
-        EntryRead::Lacking => 20,
-        EntryRead::BadSize => 21,
-        EntryRead::Absent => 25,
+        EntryRead::Lacking => read.number(),
+        EntryRead::BadSize => read.number(),
+        EntryRead::Absent => read.number(),
     }
 }
 
@@ -59,19 +65,21 @@ pub extern "C" fn ighzamrel_write_index(
     out: &mut [u8],
     length: &mut usize,
 ) -> u32
-    ensures { λ r. ⌜ record { number = r; place = now (length .exit); left = now (out .exit) } ≡ tellLength (writeIndex 2 (now (lengths .entry)) (now («data» .entry)) (now (out .entry))) (now (length .entry)) ⌝ }
+    ensures { λ r. ⌜ leaving (told r (now (length .exit))) (now (out .exit))
+        ≡ tellLength (writeIndex 2 (now (lengths .entry)) (now («data» .entry)) (now (out .entry))) (now (length .entry)) ⌝ }
 {
-    match write_index(lengths, data, out) {
+    let written = write_index(lengths, data, out);
+    match written {
         IndexWritten::Bytes(n) => {
             *length = n;
-            0
+            written.number()
         }
         IndexWritten::NoRoom(n) => {
             *length = n;
-            13
+            written.number()
         }
-        IndexWritten::TooMany => 22,
-        IndexWritten::TooLong => 23,
-        IndexWritten::Mismatch => 24,
+        IndexWritten::TooMany => written.number(),
+        IndexWritten::TooLong => written.number(),
+        IndexWritten::Mismatch => written.number(),
     }
 }

@@ -13,7 +13,8 @@ ghost use mathlib.Core.Path.{_≡_};
 ghost use Rattle.number.specs.Number.{charstringRows, dictRows, readBy};
 ghost use Rattle.number.specs.Written.{integer, write};
 ghost use Rattle.number.specs.Call.{callIndex};
-ghost use Rattle.ighzamrel.specs.Told.{nonzero, kindOf, operandOf, numberPlaces, integerPlaces, told, laid, tell, tellLength};
+ghost use Rattle.number.specs.Answer.{leaving};
+ghost use Rattle.ighzamrel.specs.Told.{nonzero, kindOf, operandOf, numberPlaces, integerPlaces, told, asIs, tellRead, tellLength};
 
 // The number at the start of a part of a charstring: 0, its kind, its value and how many bytes it is;
 // or 4 or 6.
@@ -24,18 +25,21 @@ pub extern "C" fn ighzamrel_read_charstring_number(
     value: &mut i32,
     width: &mut usize,
 ) -> u32
-    ensures { λ r. ⌜ told r (record { kind = now (kind .exit); value = now (value .exit); width = now (width .exit) }) ≡ tell (laid numberPlaces (readBy charstringRows (now (bytes .entry)))) (record { kind = now (kind .entry); value = now (value .entry); width = now (width .entry) }) ⌝ }
+    ensures { λ r. ⌜ told r (record { kind = now (kind .exit); value = now (value .exit); width = now (width .exit) })
+        ≡ tellRead numberPlaces (readBy charstringRows (now (bytes .entry)))
+        (record { kind = now (kind .entry); value = now (value .entry); width = now (width .entry) }) ⌝ }
 {
-    match read_charstring_number(bytes) {
+    let read = read_charstring_number(bytes);
+    match read {
         NumberRead::Read(operand, n) => {
             let z = operand.value;
             *kind = kind_of(operand.fixed);
             *value = z;
             *width = n;
-            0
+            read.number()
         }
-        NumberRead::Lacking => 4,
-        NumberRead::NoNumber => 6,
+        NumberRead::Lacking => read.number(),
+        NumberRead::NoNumber => read.number(),
     }
 }
 
@@ -46,17 +50,19 @@ pub extern "C" fn ighzamrel_read_dict_integer(
     value: &mut i32,
     width: &mut usize,
 ) -> u32
-    ensures { λ r. ⌜ told r (record { value = now (value .exit); width = now (width .exit) }) ≡ tell (laid integerPlaces (readBy dictRows (now (bytes .entry)))) (record { value = now (value .entry); width = now (width .entry) }) ⌝ }
+    ensures { λ r. ⌜ told r (record { value = now (value .exit); width = now (width .exit) })
+        ≡ tellRead integerPlaces (readBy dictRows (now (bytes .entry))) (record { value = now (value .entry); width = now (width .entry) }) ⌝ }
 {
-    match read_dict_integer(bytes) {
+    let read = read_dict_integer(bytes);
+    match read {
         NumberRead::Read(operand, taken) => {
             let z = operand.value;
             *value = z;
             *width = taken;
-            0
+            read.number()
         }
-        NumberRead::Lacking => 4,
-        NumberRead::NoNumber => 6,
+        NumberRead::Lacking => read.number(),
+        NumberRead::NoNumber => read.number(),
     }
 }
 
@@ -69,18 +75,20 @@ pub extern "C" fn ighzamrel_write_charstring_number(
     out: &mut [u8],
     length: &mut usize,
 ) -> u32
-    ensures { λ r. ⌜ record { number = r; place = now (length .exit); left = now (out .exit) } ≡ tellLength (write charstringRows (operandOf kind value) (now (out .entry))) (now (length .entry)) ⌝ }
+    ensures { λ r. ⌜ leaving (told r (now (length .exit))) (now (out .exit))
+        ≡ tellLength (write charstringRows (operandOf kind value) (now (out .entry))) (now (length .entry)) ⌝ }
 {
-    match write_charstring_number(operand_of(kind, value), out) {
+    let written = write_charstring_number(operand_of(kind, value), out);
+    match written {
         NumberWritten::Bytes(n) => {
             *length = n;
-            0
+            written.number()
         }
         NumberWritten::NoRoom(n) => {
             *length = n;
-            13
+            written.number()
         }
-        NumberWritten::Outside => 17,
+        NumberWritten::Outside => written.number(),
     }
 }
 
@@ -91,16 +99,18 @@ pub extern "C" fn ighzamrel_write_dict_integer(
     out: &mut [u8],
     length: &mut usize,
 ) -> u32
-    ensures { λ r. ⌜ record { number = r; place = now (length .exit); left = now (out .exit) } ≡ tellLength (write dictRows (integer value) (now (out .entry))) (now (length .entry)) ⌝ }
+    ensures { λ r. ⌜ leaving (told r (now (length .exit))) (now (out .exit))
+        ≡ tellLength (write dictRows (integer value) (now (out .entry))) (now (length .entry)) ⌝ }
 {
-    match write_dict_integer(value, out) {
+    let written = write_dict_integer(value, out);
+    match written {
         IntegerWritten::Bytes(n) => {
             *length = n;
-            0
+            written.number()
         }
         IntegerWritten::NoRoom(n) => {
             *length = n;
-            13
+            written.number()
         }
     }
 }
@@ -108,13 +118,16 @@ pub extern "C" fn ighzamrel_write_dict_integer(
 // The index that an operand is at a call: 0 and the index, or 7.
 #[no_mangle]
 pub extern "C" fn ighzamrel_call_index(kind: u32, value: i32, profile: u32, index: &mut i32) -> u32
-    ensures { λ r. ⌜ told r (now (index .exit)) ≡ tell (callIndex (nonzero profile) (operandOf kind value)) (now (index .entry)) ⌝ }
+    ensures { λ r. ⌜ told r (now (index .exit)) ≡ tellRead asIs (callIndex (nonzero profile) (operandOf kind value)) (now (index .entry)) ⌝ }
 {
-    let Whole::Is(z) = call_index(operand_of(kind, value), profile != 0) else {
-        return 7;
-    };
-    *index = z;
-    0
+    let found = call_index(operand_of(kind, value), profile != 0);
+    match found {
+        Whole::Is(z) => {
+            *index = z;
+            found.number()
+        }
+        Whole::Not => found.number(),
+    }
 }
 
 fn operand_of(kind: u32, value: i32) -> Operand

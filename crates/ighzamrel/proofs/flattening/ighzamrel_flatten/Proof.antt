@@ -1,26 +1,26 @@
 -- `ighzamrel_flatten` tells what `flatten` answers, and leaves what it leaves. Assumes nothing.
-use Rattle.ighzamrel.specs.Told.{Written, tellWritten, sizesFrom, tellFlattening}
-use Rattle.ighzamrel.specs.ToldLaws.{tell-known}
+use Rattle.ighzamrel.specs.Told.{profileOf, tell}
+use Rattle.ighzamrel.specs.ToldLaws.{tell-left, number-as}
+use Rattle.number.specs.Answer.{Answer, Outcome, leaving}
 use Rattle.reading.specs.Answers.{Flattening, flattened, flattening}
 use Rattle.reading.specs.Rules.{rulesOf}
-use Rattle.reading.specs.declared.Flattened.{Flattened}
 use Rattle.reading.specs.declared.Profile.{Profile}
-use Prim.Native.Nat.{ℕ}
-use mathlib.Core.List.{List}
 use mathlib.Core.Path.{_≡_, ap, _∙_}
 use borrow.Author.Needs.{needs}
 use Rattle.ighzamrel.proofs.flattening.ighzamrel_flatten.Statement.{statement}
 use Rattle.ighzamrel.proofs.flattening.ighzamrel_flatten.Tie as tie
 
--- what is told where the answer is known, by the profile that C's number stands for
-say : {p q : Profile} {r w : Flattened} (cs globals locals : List ℕ) (budget : ℕ) (out left : List ℕ) (old : Flattening) → p ≡ q → r ≡ w
-    → record { answer = flattened r; left = left } ≡ flattening (rulesOf p) cs globals locals budget out
-    → tellFlattening (record { answer = flattened w; left = left }) old ≡ tellFlattening (flattening (rulesOf q) cs globals locals budget out) old
-say cs globals locals budget out left old e k h =
-    tell-known tellFlattening (λ x l. record { answer = flattened x; left = l }) left old k (h ∙ ap (λ x. flattening (rulesOf x) cs globals locals budget out) e)
+abbrev start : tie.After-flatten → tie.Start
+start c = c .before .before .before .before .before .before .before
 
-numbered : {k n : ℕ} (x : Flattening) (left : List ℕ) → k ≡ n → _≡_ {A = Written Flattening} (record { number = k; place = x; left = left }) (record { number = n; place = x; left = left })
-numbered x left e = ap (λ (m : ℕ). record { number = m; place = x; left = left }) e
+abbrev asks : tie.After-flatten → Profile → Outcome (Answer Flattening)
+asks c p =
+    let a = start c .args in flattening (rulesOf p) (a .charstring .now) (a .globals .now) (a .locals .now) (a .budget) (a .out .now)
+
+-- by the profile that C's number stands for
+asked : (c : tie.After-flatten)
+    → leaving (flattened (c .flatten .result)) (c .flatten .last .1 .1 .1 .1 .1 .0) ≡ asks c (profileOf (start c .args .profile))
+asked c = c .flatten .ensures ∙ ap (asks c) (c .before .before .profile-of .ensures)
 
 profile-of-requires : tie.Need-profile-of-requires
 profile-of-requires c κs = search needs
@@ -28,58 +28,79 @@ profile-of-requires c κs = search needs
 flatten-requires : tie.Need-flatten-requires
 flatten-requires c κs = search needs
 
-enum-known-n : tie.Need-enum-known-n
-enum-known-n c = search needs
+enum-known-flattened : tie.Need-enum-known-flattened
+enum-known-flattened c = search needs
+
+number-requires : tie.Need-number-requires
+number-requires c κs = search needs
 
 enum-told : tie.Need-enum-told
 enum-told c = search needs
 
+number-requires-2 : tie.Need-number-requires-2
+number-requires-2 c κs = search needs
+
 enum-told-2 : tie.Need-enum-told-2
 enum-told-2 c = search needs
 
-enum-known-why : tie.Need-enum-known-why
-enum-known-why c = search needs
+number-requires-3 : tie.Need-number-requires-3
+number-requires-3 c κs = search needs
 
-number-of-requires : tie.Need-number-of-requires
-number-of-requires c κs = search needs
+enum-known-flattened-2 : tie.Need-enum-known-flattened-2
+enum-known-flattened-2 c = search needs
 
-enum-known-n-2 : tie.Need-enum-known-n-2
-enum-known-n-2 c = search needs
+number-requires-4 : tie.Need-number-requires-4
+number-requires-4 c κs = search needs
+
+enum-known-flattened-3 : tie.Need-enum-known-flattened-3
+enum-known-flattened-3 c = search needs
+
+number-requires-5 : tie.Need-number-requires-5
+number-requires-5 c κs = search needs
 
 same-length : tie.Need-same-length
 same-length c = search needs
 
 returns : tie.Need-returns
-unfolding tellWritten
-returns c = say _ _ _ _ _ _ _ (c .before .before .before .before .before .before .before .profile-of .ensures) (c .before .n .given .1) (c .before .before .before .before .before .flatten .ensures)
+unfolding tell
+returns c =
+    tell-left _ _ flattened _ (c .before .before .flattened .given .1) _ (c .number .ensures) (asked (c .before .before .before .before .before .before))
 
 same-length-2 : tie.Need-same-length-2
 same-length-2 c = search needs
 
 returns-2 : tie.Need-returns-2
-unfolding tellWritten sizesFrom
-returns-2 c = say _ _ _ _ _ _ _ (c .before .before .before .before .before .before .profile-of .ensures) (c .enum-told .given .1) (c .before .before .before .before .flatten .ensures)
+unfolding tell
+returns-2 c =
+    tell-left _ _ flattened _ (c .before .enum-told .given .1) _ (number-as flattened (c .before .enum-told .given .1) (c .number2 .ensures))
+    (asked (c .before .before .before .before .before))
 
 same-length-3 : tie.Need-same-length-3
 same-length-3 c = search needs
 
 returns-3 : tie.Need-returns-3
-unfolding tellWritten sizesFrom
-returns-3 c = say _ _ _ _ _ _ _ (c .before .before .before .before .before .before .profile-of .ensures) (c .enum-told2 .given .1) (c .before .before .before .before .flatten .ensures)
+unfolding tell
+returns-3 c =
+    tell-left _ _ flattened _ (c .before .enum-told2 .given .1) _ (number-as flattened (c .before .enum-told2 .given .1) (c .number3 .ensures))
+    (asked (c .before .before .before .before .before))
 
 same-length-4 : tie.Need-same-length-4
 same-length-4 c = search needs
 
 returns-4 : tie.Need-returns-4
-unfolding tellWritten sizesFrom
-returns-4 c = numbered _ _ (c .number-of .ensures) ∙ say _ _ _ _ _ _ _ (c .before .before .before .before .before .before .before .before .profile-of .ensures) (c .before .before .why .given .1) (c .before .before .before .before .before .before .flatten .ensures)
+unfolding tell
+returns-4 c =
+    tell-left _ _ flattened _ (c .before .before .flattened2 .given .1) _ (c .number4 .ensures)
+    (asked (c .before .before .before .before .before .before))
 
 same-length-5 : tie.Need-same-length-5
 same-length-5 c = search needs
 
 returns-5 : tie.Need-returns-5
-unfolding tellWritten sizesFrom
-returns-5 c = say _ _ _ _ _ _ _ (c .before .before .before .before .before .before .before .profile-of .ensures) (c .before .n2 .given .1) (c .before .before .before .before .before .flatten .ensures)
+unfolding tell
+returns-5 c =
+    tell-left _ _ flattened _ (c .before .before .flattened3 .given .1) _ (c .number5 .ensures)
+    (asked (c .before .before .before .before .before .before))
 
 pub ighzamrel-flatten-spec : {M : Type 1} → statement M
 ighzamrel-flatten-spec =
@@ -87,12 +108,16 @@ ighzamrel-flatten-spec =
     (tie.spec
     profile-of-requires
     flatten-requires
-    enum-known-n
+    enum-known-flattened
+    number-requires
     enum-told
+    number-requires-2
     enum-told-2
-    enum-known-why
-    number-of-requires
-    enum-known-n-2
+    number-requires-3
+    enum-known-flattened-2
+    number-requires-4
+    enum-known-flattened-3
+    number-requires-5
     same-length
     returns
     same-length-2

@@ -1,0 +1,115 @@
+-- The demands, of the function that users call: what the contracts of two calls of `ighzamrel_flatten` say, the second on the first's output with two
+-- lists `00 00`. Stated over the contract's own reading. Assumes nothing but that the lent slices hold bytes, which their type says.
+use mathlib.Core.Path.{_≡_, refl, sym, ap, subst, _∙_}
+use mathlib.Core.List.{List, [], _∷_, _++_}
+use Prim.Native.Nat.{ℕ, _≤_}
+use lib.ListN.{length, take, drop}
+use borrow.Fn.Kinds.{Dens, resT, endedOf}
+use contract.Lifetimes.{Lfts}
+use denote.Triple.Clauses.{AtExit}
+use Rattle.number.specs.Answer.{Answer, accepted, Outcome, leaving}
+use Rattle.number.specs.AnswerLaws.{answer-as, left-as}
+use Rattle.reading.specs.Rules.{Rules, rulesOf}
+use Rattle.reading.specs.Tokens.{Bytes}
+use Rattle.reading.specs.Flat.{straight}
+use Rattle.reading.specs.Masks.{StemsFirst, ByNote}
+use Rattle.reading.specs.Answers.{Flattening, flattening}
+use Rattle.reading.specs.Demands.{SameGlyph, empty}
+use Rattle.reading.specs.DemandLaws.{demand-three, masks-by-note, within-budget}
+use Rattle.reading.specs.declared.Profile.{Profile}
+use Rattle.reading.specs.declared.Profile.the-variants.{Plain, Strict}
+use Rattle.ighzamrel.specs.Told.{Told, told, tell, FlatPlaces, tellFlattening, profileOf}
+use Rattle.ighzamrel.proofs.Refusals.{numbered-flattening, told-accepted}
+use Rattle.ighzamrel.proofs.flattening.ighzamrel_flatten.Kinds as kinds
+use Rattle.ighzamrel.proofs.flattening.ighzamrel_flatten.Reads as reads
+
+-- the list `00 00`, in either profile
+no-entries : (p : Profile) → 0 ∷ 0 ∷ [] ≡ empty (rulesOf p)
+no-entries Plain = refl
+no-entries Strict = refl
+
+-- a call that answered 0
+module _ (κs : Lfts 4) (a : Dens κs kinds.ps) (x : AtExit (endedOf 4 kinds.ps kinds.r) κs) (first : reads.Post κs a 0 x)
+    (cs-bytes : Bytes (a .0 .now)) (globals-bytes : Bytes (a .1 .0 .now)) (locals-bytes : Bytes (a .1 .1 .0 .now)) where
+  abbrev rules : Rules
+  rules = rulesOf (profileOf (a .1 .1 .1 .0))
+
+  -- its *length, its *tokens, and as many bytes of its room
+  abbrev n : ℕ
+  n = x .1 .1 .1 .1 .1 .1 .0 .now
+
+  abbrev t : ℕ
+  t = x .1 .1 .1 .1 .1 .1 .1 .0 .now
+
+  abbrev reported : List ℕ
+  reported = take n (x .1 .1 .1 .1 .1 .0 .now)
+
+  abbrev asked : Outcome (Answer Flattening)
+  asked = flattening rules (a .0 .now) (a .1 .0 .now) (a .1 .1 .0 .now) (a .1 .1 .1 .1 .0) (a .1 .1 .1 .1 .1 .0 .now)
+
+  was-accepted : asked .answer ≡ accepted (record { size = n; tokens = t })
+  was-accepted =
+      told-accepted (asked .answer) _ (record { length = n; tokens = t })
+      (numbered-flattening rules (a .0 .now) (a .1 .0 .now) (a .1 .1 .0 .now) (a .1 .1 .1 .1 .0) (a .1 .1 .1 .1 .1 .0 .now)) (answer-as first)
+
+  -- what holds of F of the definition holds of the bytes that the call left
+  of-call : (P : List ℕ → Type 0) → P (take n (asked .left)) → P reported
+  of-call P h = subst (λ (l : List ℕ). P (take n l)) (sym (left-as first)) h
+
+  -- Its first *length bytes are the same glyph.
+  pub says-the-same : SameGlyph rules (a .0 .now) (a .1 .0 .now) (a .1 .1 .0 .now) (a .1 .1 .1 .1 .0) (record { size = n; tokens = t }) reported
+  says-the-same =
+      of-call (SameGlyph rules (a .0 .now) (a .1 .0 .now) (a .1 .1 .0 .now) (a .1 .1 .1 .1 .0) (record { size = n; tokens = t }))
+      (demand-three rules (a .0 .now) (a .1 .0 .now) (a .1 .1 .0 .now) (a .1 .1 .1 .1 .0) (a .1 .1 .1 .1 .1 .0 .now) (record { size = n; tokens = t })
+      cs-bytes globals-bytes locals-bytes was-accepted)
+
+  -- Where their stems stand first, each of their masks has TN5177's bytes.
+  pub masks-are-noted : StemsFirst rules (straight rules reported .items) → ByNote rules (straight rules reported .items)
+  masks-are-noted =
+      of-call (λ f. StemsFirst rules (straight rules f .items) → ByNote rules (straight rules f .items))
+      (masks-by-note rules (a .0 .now) (a .1 .0 .now) (a .1 .1 .0 .now) (a .1 .1 .1 .1 .0) (a .1 .1 .1 .1 .1 .0 .now) (record { size = n; tokens = t })
+      cs-bytes globals-bytes locals-bytes was-accepted)
+
+  -- *tokens is at most the budget.
+  pub within : t ≤ a .1 .1 .1 .1 .0
+  within =
+      within-budget rules (a .0 .now) (a .1 .0 .now) (a .1 .1 .0 .now) (a .1 .1 .1 .1 .0) (a .1 .1 .1 .1 .1 .0 .now) (record { size = n; tokens = t })
+      cs-bytes globals-bytes locals-bytes was-accepted
+
+  -- a second call, on those bytes with two lists `00 00`, the same profile, a budget of *tokens and room for them
+  module _ (κs′ : Lfts 4) (a′ : Dens κs′ kinds.ps) (r′ : resT kinds.r κs′ .Denot) (x′ : AtExit (endedOf 4 kinds.ps kinds.r) κs′)
+      (second : reads.Post κs′ a′ r′ x′) (cs-is : a′ .0 .now ≡ reported)
+      (no-globals : a′ .1 .0 .now ≡ 0 ∷ 0 ∷ []) (no-locals : a′ .1 .1 .0 .now ≡ 0 ∷ 0 ∷ [])
+      (same-profile : a′ .1 .1 .1 .0 ≡ a .1 .1 .1 .0) (budget-is : a′ .1 .1 .1 .1 .0 ≡ t) (room : n ≤ length (a′ .1 .1 .1 .1 .1 .0 .now)) where
+    -- how many items they have
+    abbrev items : ℕ
+    items = length (straight rules reported .items)
+
+    abbrev old : FlatPlaces
+    old = record { length = a′ .1 .1 .1 .1 .1 .1 .0 .now; tokens = a′ .1 .1 .1 .1 .1 .1 .1 .0 .now }
+
+    again : flattening (rulesOf (profileOf (a′ .1 .1 .1 .0))) (a′ .0 .now) (a′ .1 .0 .now) (a′ .1 .1 .0 .now) (a′ .1 .1 .1 .1 .0) (a′ .1 .1 .1 .1 .1 .0 .now)
+        ≡ leaving (accepted (record { size = n; tokens = items })) (reported ++ drop n (a′ .1 .1 .1 .1 .1 .0 .now))
+    again =
+        let none = no-entries (profileOf (a .1 .1 .1 .0)) in
+        rw (cs-is, no-globals ∙ none, no-locals ∙ none, same-profile, budget-is) (says-the-same .again (a′ .1 .1 .1 .1 .1 .0 .now) room)
+
+    abbrev set : FlatPlaces
+    set = record { length = x′ .1 .1 .1 .1 .1 .1 .0 .now; tokens = x′ .1 .1 .1 .1 .1 .1 .1 .0 .now }
+
+    whole : leaving (told r′ set) (x′ .1 .1 .1 .1 .1 .0 .now)
+        ≡ leaving (told {A = FlatPlaces} 0 (record { length = n; tokens = items })) (reported ++ drop n (a′ .1 .1 .1 .1 .1 .0 .now))
+    unfolding tell
+    whole = second ∙ ap (λ (o : Outcome (Answer Flattening)). tellFlattening o old) again
+
+    -- It answers 0, sets *length to the same and *tokens to how many items they have, gives the same bytes back, and leaves the rest of its room
+    -- as lent; and those items are at most the first call's *tokens.
+    pub comes-back : (r′ ≡ 0) × (x′ .1 .1 .1 .1 .1 .1 .0 .now ≡ n) × (x′ .1 .1 .1 .1 .1 .1 .1 .0 .now ≡ items)
+        × (x′ .1 .1 .1 .1 .1 .0 .now ≡ reported ++ drop n (a′ .1 .1 .1 .1 .1 .0 .now)) × (items ≤ t)
+    comes-back = (
+      ap (λ (y : Outcome (Told FlatPlaces)). y .answer .number) whole,
+      ap (λ (y : Outcome (Told FlatPlaces)). y .answer .places .length) whole,
+      ap (λ (y : Outcome (Told FlatPlaces)). y .answer .places .tokens) whole,
+      left-as whole,
+      says-the-same .fewer,
+    )
