@@ -23,6 +23,9 @@ use Rattle.ighzamrel.proofs.Refusals.{numbered-flattening, told-accepte
 use Rattle.ighzamrel.proofs.flattening.ighzamrel_flatten.Kinds as kinds
 use Rattle.ighzamrel.proofs.flattening.ighzamrel_flatten.Reads as reads
 
+-- Of a, the arguments in their order, and of x, what each is at the end: `.0` is the charstring, `.1 .0` the globals, `.1 .1 .0` the locals, then the
+-- profile, the budget, out, length, and `.1 .1 .1 .1 .1 .1 .1 .0` is tokens.
+
 -- the list `00 00`, in either profile
 no-entries : (p : Profile) → 0 ∷ 0 ∷ [] ≡ empty (rulesOf p)
 no-entries Plain = refl
