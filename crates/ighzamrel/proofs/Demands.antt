@@ -23,6 +23,9 @@ use Rattle.ighzamrel.proofs.Refusals.{numbered-flattening, told-accepte
 use Rattle.ighzamrel.proofs.flattening.ighzamrel_flatten.Kinds as kinds
 use Rattle.ighzamrel.proofs.flattening.ighzamrel_flatten.Reads as reads
 
+-- Of a, the arguments in their order, and of x, what each is at the end: `.0` is the charstring, `.1 .0` the globals, `.1 .1 .0` the locals, then the
+-- profile, the budget, out, length, and `.1 .1 .1 .1 .1 .1 .1 .0` is tokens.
+
 -- the list `00 00`, in either profile
 no-entries : (p : Profile) → 0 ∷ 0 ∷ [] ≡ empty (rulesOf p)
 no-entries Plain = refl
@@ -34,7 +37,7 @@ module _ (κs : Lfts 4) (a : Dens κs kinds.ps) (x : AtExit (endedOf 4 kinds.ps 
   abbrev rules : Rules
   rules = rulesOf (profileOf (a .1 .1 .1 .0))
 
-  -- its *length, its *tokens, and as many bytes of its room
+  -- *length, *tokens, and the first n bytes of the room, as it leaves them
   abbrev n : ℕ
   n = x .1 .1 .1 .1 .1 .1 .0 .now
 
@@ -56,7 +59,7 @@ module _ (κs : Lfts 4) (a : Dens κs kinds.ps) (x : AtExit (endedOf 4 kinds.ps 
   of-call : (P : List ℕ → Type 0) → P (take n (asked .left)) → P reported
   of-call P h = subst (λ (l : List ℕ). P (take n l)) (sym (left-as first)) h
 
-  -- Its first *length bytes are the same glyph.
+  -- Its first n bytes are the same glyph.
   pub says-the-same : SameGlyph rules (a .0 .now) (a .1 .0 .now) (a .1 .1 .0 .now) (a .1 .1 .1 .1 .0) (record { size = n; tokens = t }) reported
   says-the-same =
       of-call (SameGlyph rules (a .0 .now) (a .1 .0 .now) (a .1 .1 .0 .now) (a .1 .1 .1 .1 .0) (record { size = n; tokens = t }))
@@ -70,13 +73,13 @@ module _ (κs : Lfts 4) (a : Dens κs kinds.ps) (x : AtExit (endedOf 4 kinds.ps 
       (masks-by-note rules (a .0 .now) (a .1 .0 .now) (a .1 .1 .0 .now) (a .1 .1 .1 .1 .0) (a .1 .1 .1 .1 .1 .0 .now) (record { size = n; tokens = t })
       cs-bytes globals-bytes locals-bytes was-accepted)
 
-  -- *tokens is at most the budget.
+  -- t is at most the budget.
   pub within : t ≤ a .1 .1 .1 .1 .0
   within =
       within-budget rules (a .0 .now) (a .1 .0 .now) (a .1 .1 .0 .now) (a .1 .1 .1 .1 .0) (a .1 .1 .1 .1 .1 .0 .now) (record { size = n; tokens = t })
       cs-bytes globals-bytes locals-bytes was-accepted
 
-  -- a second call, on those bytes with two lists `00 00`, the same profile, a budget of *tokens and room for them
+  -- a second call, on those bytes with two lists `00 00`, the same profile, a budget of t and room for them
   module _ (κs′ : Lfts 4) (a′ : Dens κs′ kinds.ps) (r′ : resT kinds.r κs′ .Denot) (x′ : AtExit (endedOf 4 kinds.ps kinds.r) κs′)
       (second : reads.Post κs′ a′ r′ x′) (cs-is : a′ .0 .now ≡ reported)
       (no-globals : a′ .1 .0 .now ≡ 0 ∷ 0 ∷ []) (no-locals : a′ .1 .1 .0 .now ≡ 0 ∷ 0 ∷ [])
@@ -102,8 +105,7 @@ module _ (κs : Lfts 4) (a : Dens κs kinds.ps) (x : AtExit (endedOf 4 kinds.ps 
     unfolding tell
     whole = second ∙ ap (λ (o : Outcome (Answer Flattening)). tellFlattening o old) again
 
-    -- It answers 0, sets *length to the same and *tokens to how many items they have, gives the same bytes back, and leaves the rest of its room
-    -- as lent; and those items are at most the first call's *tokens.
+    -- It answers 0, sets *length to n and *tokens to the number of their items, at most t, and gives the same bytes back: the rest of its room is as lent.
     pub comes-back : (r′ ≡ 0) × (x′ .1 .1 .1 .1 .1 .1 .0 .now ≡ n) × (x′ .1 .1 .1 .1 .1 .1 .1 .0 .now ≡ items)
         × (x′ .1 .1 .1 .1 .1 .0 .now ≡ reported ++ drop n (a′ .1 .1 .1 .1 .1 .0 .now)) × (items ≤ t)
     comes-back = (

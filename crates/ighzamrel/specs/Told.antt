@@ -35,10 +35,10 @@ pub record Told (A : Type 0) : Type 0 where
 abbrev pub told : {A : Type 0} → ℕ → A → Told A
 told n x = record { number = n; places = x }
 
--- accepted: 0, and what it makes of the places; refused: the number, and what the values that come with it make of them
+-- accepted: 0, and the places as what is accepted sets them; refused: the number, and the places as the values that come with it set them
 unfoldable pub tell : {A P : Type 0} → (P → A → P) → (P → Values → P) → Answer A → P → Told P
-tell given kept (accepted x) old = told 0 (given old x)
-tell given kept (refused n v) old = told n (kept old v)
+tell set setBy (accepted x) old = told 0 (set old x)
+tell set setBy (refused n v) old = told n (setBy old v)
 
 -- ---- of a reader: a refusal leaves each place as it was
 
@@ -64,11 +64,12 @@ pub record IntegerPlaces : Type 0 where
 abbrev pub integerPlaces : Number → IntegerPlaces
 integerPlaces x = record { value = x .operand .value; width = x .width }
 
--- ---- of a writer: a refusal gives what it has for a place; and the room is as the writer leaves it
+-- ---- of a writer: a refusal sets a place that it has a value for; and the room is as the writer leaves it
 
 abbrev pub tellLength : Outcome (Answer ℕ) → ℕ → Outcome (Told ℕ)
 tellLength o old = leaving (tell (λ p n. n) lengthOr (o .answer) old) (o .left)
 
+-- the places of a flattening, what is given there, and what a refusal gives
 pub record FlatPlaces : Type 0 where
   pub length : ℕ
   pub tokens : ℕ

@@ -6,26 +6,26 @@ use Rattle.number.specs.Answer.{Values, Answer, accepted, refused, numberIn, Ou
 use Rattle.number.specs.AnswerLaws.{answer-as, left-as}
 use Rattle.ighzamrel.specs.Told.{Told, told, tell}
 
-module _ {A P : Type 0} (given : P → A → P) (kept : P → Values → P) where
+module _ {A P : Type 0} (set : P → A → P) (setBy : P → Values → P) where
   -- by the answer's number
-  numbered : {n : ℕ} (a : Answer A) (old : P) → n ≡ numberIn a → told n (tell given kept a old .places) ≡ tell given kept a old
+  numbered : {n : ℕ} (a : Answer A) (old : P) → n ≡ numberIn a → told n (tell set setBy a old .places) ≡ tell set setBy a old
   unfolding tell
-  numbered (accepted x) old e = ap (λ (m : ℕ). told m (given old x)) e
-  numbered (refused k v) old e = ap (λ (m : ℕ). told m (kept old v)) e
+  numbered (accepted x) old e = ap (λ (m : ℕ). told m (set old x)) e
+  numbered (refused k v) old e = ap (λ (m : ℕ). told m (setBy old v)) e
 
   -- `says` is what a result says; the result r is known to be w
   module _ {E : Type 0} (says : E → Answer A) {n : ℕ} {r w : E} (old : P) (k : r ≡ w) where
     -- n is the number of w
-    pub tell-known : {a : Answer A} → n ≡ numberIn (says w) → says r ≡ a → told n (tell given kept (says w) old .places) ≡ tell given kept a old
+    pub tell-known : {a : Answer A} → n ≡ numberIn (says w) → says r ≡ a → told n (tell set setBy (says w) old .places) ≡ tell set setBy a old
     tell-known {a} e h =
         let is : says w ≡ a = ap says (sym k) ∙ h in
-        ap (λ (x : Answer A). told n (tell given kept x old .places)) is ∙ numbered a old (e ∙ ap numberIn is)
+        ap (λ (x : Answer A). told n (tell set setBy x old .places)) is ∙ numbered a old (e ∙ ap numberIn is)
 
     -- and with what is left in the room
     pub tell-left : {o : Outcome (Answer A)} (left : List ℕ) → n ≡ numberIn (says w) → leaving (says r) left ≡ o
-        → leaving (told n (tell given kept (says w) old .places)) left ≡ leaving (tell given kept (o .answer) old) (o .left)
+        → leaving (told n (tell set setBy (says w) old .places)) left ≡ leaving (tell set setBy (o .answer) old) (o .left)
     tell-left {o} left e h =
-        ap (λ (t : Told P). leaving t left) (tell-known e (answer-as h)) ∙ ap (λ (l : List ℕ). leaving (tell given kept (o .answer) old) l) (left-as h)
+        ap (λ (t : Told P). leaving t left) (tell-known e (answer-as h)) ∙ ap (λ (l : List ℕ). leaving (tell set setBy (o .answer) old) l) (left-as h)
 
 -- the number of a result that is known
 pub number-as : {E A : Type 0} (says : E → Answer A) {n : ℕ} {r w : E} → r ≡ w → n ≡ numberIn (says r) → n ≡ numberIn (says w)

@@ -1,6 +1,7 @@
 // The C functions, thin over the crates below; include/ighzamrel.h declares them. Each answers 0 or a
-// refusal's number of document 01, and leaves a place for a value that the answer does not give as it
-// was. No function has a `requires`: each answers every input, and its contract says with what.
+// refusal's number of document 01, which is the `number` of the answer below, and leaves a place for a
+// value that the answer does not give as it was. No function has a `requires`: each answers every
+// input, and its contract says with what.
 //
 // `kind` is 0 for an integer, else a Fixed; `profile` is 0 for plain, else strict.
 mod flattening;
