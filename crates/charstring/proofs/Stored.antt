@@ -1,23 +1,15 @@
--- What storing one after the other leaves, and an operand's bytes in the room where they are written first. Assumes nothing.
+-- What storing one after the other leaves: the low bytes of a number, an operator's and an operand's. Assumes nothing.
 use mathlib.Core.Path.{_≡_, refl, sym, ap, _∙_}
 use mathlib.Core.Bool.{true, false}
 use mathlib.Core.List.{List, [], _∷_, _++_}
-use Prim.Native.Nat.{ℕ, _+_, _≤_}
+use Prim.Native.Nat.{ℕ, _+_, _/_, _%_}
 use native.Mathlib.Omega.{arith}
-use lib.ListN.{length, take, drop, length-append, take-append-drop}
-use lib.Seq.{take-append-seam, sets}
-use Rattle.number.specs.Answer.{Values, Answer, accepted, refused, mapped, leaving, sized, into}
-use Rattle.number.specs.AnswerLaws.{refused-accepted, accepted-same, answer-as, left-as, into-fits}
-use Rattle.number.specs.Number.{charstringRows}
-use Rattle.number.specs.Written.{bytes, bytesBy, spell, spelling, write, numberWritten}
-use Rattle.number.specs.RoundTripLaws.{spelling-most}
-use Rattle.number.specs.declared.Operand.{Operand}
+use lib.ListN.{length}
+use lib.Seq.{sets}
+use Rattle.number.specs.BigEndian.{bytesOf}
+use Rattle.number.specs.Written.{bytes}
+use Rattle.number.specs.WrittenLaws.{length-form}
 use Rattle.number.specs.declared.write.Form.{Form}
-use Rattle.number.specs.declared.write.NumberWritten.{NumberWritten}
-use Rattle.number.specs.declared.write.NumberWritten.the-variants.{Bytes, NoRoom, Outside}
-use Rattle.number.proofs.write.NumberWritten as written-type
-use denote.Enum.Declared.{tagOf}
-use types.Run.{OneOf, miss}
 use Rattle.reading.specs.Flat.{operatorBytes}
 use Rattle.reading.specs.declared.Operator.{Operator}
 use Rattle.charstring.specs.WordsLaws.{sets-append}
@@ -42,56 +34,50 @@ module _ (p : Operator) where
   pub one-byte : p .escaped ≡ false → p .byte ∷ [] ≡ operatorBytes p
   one-byte e = rw e
 
--- ---- an operand's bytes in the first room
+-- ---- the low bytes of a number
 
--- the first n bytes of a list are these
-pub record Starts (n : ℕ) (l bs : List ℕ) : Type 0 where
-  pub count : n ≡ length bs
-  pub first : take n l ≡ bs
+module _ (l : List ℕ) (at width v : ℕ) where
+  abbrev Low : ℕ → List ℕ → Type 0
+  Low n l₁ = (n ≡ at + width) × (l₁ ≡ sets l at (bytesOf width v))
 
-pub starts-long : (n : ℕ) (l bs : List ℕ) → Starts n l bs → n ≡ length (take n l)
-starts-long n l bs h = h .count ∙ ap length (sym (h .first))
+  low-by : (k n : ℕ) (bs l₁ : List ℕ) → width ≡ k → bs ≡ bytesOf k v → n ≡ at + k → l₁ ≡ sets l at bs → Low n l₁
+  low-by k n bs l₁ e q m f = (m ∙ ap (λ (x : ℕ). at + x) (sym e), f ∙ ap (sets l at) (q ∙ ap (λ (x : ℕ). bytesOf x v) (sym e)))
 
-pub starts-within : (n : ℕ) (l bs : List ℕ) → Starts n l bs → n ≤ length l
-starts-within n l bs h =
-    let long = starts-long n l bs h in
-    let all : length (take n l ++ drop n l) ≡ length l = ap length (take-append-drop n l) in
-    omega (arith, length-append (take n l) (drop n l))
+  pub low-none : width ≡ 0 → Low at l
+  unfolding bytesOf
+  low-none e = low-by 0 at [] l e refl (omega arith) refl
 
-module _ (room : List ℕ) where
-  -- what the room leaves of a form that it takes
-  placed : (f : Form) → length (bytes f) ≤ length room
-      → into room (accepted (sized (bytes f))) ≡ leaving (accepted (length (bytes f))) (bytes f ++ drop (length (bytes f)) room)
-  placed f h = into-fits room (sized (bytes f)) h
+  pub low-one : (n : ℕ) (l₁ : List ℕ) → width ≡ 1 → n ≡ at + 1 → l₁ ≡ sets l at (v % 256 ∷ []) → Low n l₁
+  unfolding bytesOf
+  low-one n l₁ e m f = low-by 1 n _ l₁ e refl m f
 
-  abbrev Leaves : Answer Form → Answer ℕ → List ℕ → Type 0
-  Leaves x a l = leaving a l ≡ into room (mapped (λ (f : Form). sized (bytes f)) x)
+  pub low-two : (n : ℕ) (l₁ : List ℕ) → width ≡ 2 → n ≡ at + 2 → l₁ ≡ sets l at (bytesOf 2 v) → Low n l₁
+  low-two n l₁ e m f = low-by 2 n _ l₁ e refl m f
 
-  some-left : (x : Answer Form) → length (bytesBy x) ≤ length room → (n : ℕ) (l : List ℕ) → Leaves x (accepted n) l → Starts n l (bytesBy x)
-  unfolding bytesBy into
-  some-left (refused k v) h n l e = refused-accepted (sym (answer-as e))
-  some-left (accepted f) h n l e =
-      let n-is : n ≡ length (bytes f) = accepted-same (answer-as (e ∙ placed f h)) in
-      let l-is : l ≡ bytes f ++ drop (length (bytes f)) room = left-as (e ∙ placed f h) in
-      record { count = n-is; first = rw (n-is, l-is) (take-append-seam (bytes f) (drop (length (bytes f)) room)) }
+  pub low-three : (n n₁ : ℕ) (l₁ l₂ : List ℕ) → width ≡ 3 → n₁ ≡ at + 1 → l₁ ≡ sets l at (v / 65536 % 256 ∷ []) → n ≡ n₁ + 2
+      → l₂ ≡ sets l₁ n₁ (bytesOf 2 v) → Low n l₂
+  unfolding bytesOf
+  low-three n n₁ l₁ l₂ e m f k g =
+      let same : v / 65536 % 256 ≡ v / 256 / 256 % 256 = omega arith in
+      low-by 3 n _ l₂ e (ap (λ (x : ℕ). x ∷ bytesOf 2 v) same) (omega arith) (stored-then l at (v / 65536 % 256 ∷ []) (bytesOf 2 v) f m g)
 
-  none-left : (x : Answer Form) → length (bytesBy x) ≤ length room → (n : ℕ) (v : Values) (l : List ℕ) → Leaves x (refused n v) l → [] ≡ bytesBy x
-  unfolding bytesBy into
-  none-left (refused k w) h n v l e = refl
-  none-left (accepted f) h n v l e = refused-accepted (answer-as (e ∙ placed f h))
+  pub low-four : (n n₁ : ℕ) (l₁ l₂ : List ℕ) → width ≡ 4 → n₁ ≡ at + 2 → l₁ ≡ sets l at (bytesOf 2 (v / 65536)) → n ≡ n₁ + 2
+      → l₂ ≡ sets l₁ n₁ (bytesOf 2 v) → Low n l₂
+  unfolding bytesOf
+  low-four n n₁ l₁ l₂ e m f k g =
+      let high : v / 65536 / 256 % 256 ≡ v / 256 / 256 / 256 % 256 = omega arith in
+      let next : v / 65536 % 256 ≡ v / 256 / 256 % 256 = omega arith in
+      low-by 4 n _ l₂ e (λ i. high i ∷ next i ∷ bytesOf 2 v) (omega arith) (stored-then l at (bytesOf 2 (v / 65536)) (bytesOf 2 v) f m g)
 
-  module _ (five : length room ≡ 5) (o : Operand) where
-    big : length (spelling charstringRows o) ≤ length room
-    big = let h = spelling-most false o in omega arith
+pub low-pair : (v : ℕ) → v / 256 % 256 ∷ v % 256 ∷ [] ≡ bytesOf 2 v
+unfolding bytesOf
+low-pair v = refl
 
-    pub some-written : (r : NumberWritten) (l : List ℕ) → leaving (numberWritten r) l ≡ write charstringRows o room → (n : ℕ) → r ≡ Bytes n
-        → Starts n l (spelling charstringRows o)
-    unfolding write spelling
-    some-written r l e n q = some-left (spell charstringRows o) big n l (ap (λ (x : NumberWritten). leaving (numberWritten x) l) (sym q) ∙ e)
+-- ---- an operand's bytes: its form's first byte, and the low bytes of the rest
 
-    pub none-written : (r : NumberWritten) (l : List ℕ) → leaving (numberWritten r) l ≡ write charstringRows o room
-        → OneOf (1 ∷ 2 ∷ []) (tagOf written-type.the-type r) → [] ≡ spelling charstringRows o
-    unfolding write spelling
-    none-written (Bytes n) l e k = absurd (miss (1 ∷ 2 ∷ []) 0 tt k)
-    none-written (NoRoom n) l e k = none-left (spell charstringRows o) big _ _ l e
-    none-written Outside l e k = none-left (spell charstringRows o) big _ _ l e
+pub stored-form : (l : List ℕ) (at : ℕ) (f : Form) (cs : List ℕ) (n n₁ : ℕ) (l₁ l₂ : List ℕ) → bytes f ≡ cs → n₁ ≡ at + 1 → l₁ ≡ sets l at (f .first ∷ [])
+    → n ≡ n₁ + f .after → l₂ ≡ sets l₁ n₁ (bytesOf (f .after) (f .rest)) → (n ≡ at + length cs) × (l₂ ≡ sets l at cs)
+unfolding bytes
+stored-form l at f cs n n₁ l₁ l₂ e m q k g =
+    let long : length (bytes f) ≡ f .after + 1 = length-form f in
+    stored-as l at e (omega arith) (stored-then l at (f .first ∷ []) (bytesOf (f .after) (f .rest)) q m g)

@@ -1,16 +1,15 @@
 // Storing items as far as the room goes: past its end nothing is stored, and the length is counted all
 // the same.
 use number::Coded;
-use number::NumberWritten;
 use number::Operand;
 use number::charstring_form;
-use number::write_charstring_number;
 use reading::Operator;
 ghost use mathlib.Core.Path.{_≡_};
 ghost use mathlib.Core.List.{[], _∷_};
-ghost use Prim.Native.Nat.{_+_, _-_, _<_, _^_};
+ghost use Prim.Native.Nat.{_+_, _-_, _<_, _≤_, _^_};
 ghost use lib.ListN.{length};
 ghost use lib.Seq.{sets};
+ghost use Rattle.number.specs.BigEndian.{bytesOf};
 ghost use Rattle.number.specs.Number.{charstringRows};
 ghost use Rattle.number.specs.Written.{spelling};
 ghost use Rattle.reading.specs.Flat.{operatorBytes};
@@ -21,11 +20,11 @@ pub(crate) fn put_operand(out: &mut [u8], at: usize, o: Operand) -> usize
     ensures { λ r. ⌜ r ≡ at + length (spelling charstringRows o) ⌝ }
     ensures { λ r. ⌜ now (out .exit) ≡ sets (now (out .entry)) at (spelling charstringRows o) ⌝ }
 {
-    let mut held = [0u8; 5];
-    let NumberWritten::Bytes(n) = write_charstring_number(o, &mut held) else {
+    let Coded::Is(form) = charstring_form(o) else {
         return at;
     };
-    put_bytes(out, at, &held[..n])
+    let next = put_byte(out, at, form.first);
+    put_low(out, next, form.after, form.rest)
 }
 
 // How many bytes o takes.
@@ -80,8 +79,40 @@ fn clipped(room: usize, at: usize, n: usize) -> usize
     n
 }
 
+// Stores the `width` low bytes of v, the most significant first.
+fn put_low(out: &mut [u8], at: usize, width: usize, v: u32) -> usize
+    requires { ⌜ (at < 2 ^ 61) × (width ≤ 4) ⌝ }
+    ensures { λ r. ⌜ r ≡ at + width ⌝ }
+    ensures { λ r. ⌜ now (out .exit) ≡ sets (now (out .entry)) at (bytesOf width v) ⌝ }
+{
+    if width == 0 {
+        return at;
+    }
+    if width == 1 {
+        return put_byte(out, at, (v % 256) as u8);
+    }
+    if width == 2 {
+        return put_pair(out, at, v);
+    }
+    if width == 3 {
+        let behind = put_byte(out, at, (v / 65536 % 256) as u8);
+        return put_pair(out, behind, v);
+    }
+    let next = put_pair(out, at, v / 65536);
+    put_pair(out, next, v)
+}
+
+// Stores the two low bytes of v.
+fn put_pair(out: &mut [u8], at: usize, v: u32) -> usize
+    requires { ⌜ at < 2 ^ 62 ⌝ }
+    ensures { λ r. ⌜ r ≡ at + 2 ⌝ }
+    ensures { λ r. ⌜ now (out .exit) ≡ sets (now (out .entry)) at (bytesOf 2 v) ⌝ }
+{
+    put_two(out, at, (v / 256 % 256) as u8, (v % 256) as u8)
+}
+
 pub(crate) fn put_two(out: &mut [u8], at: usize, x: u8, y: u8) -> usize
-    requires { ⌜ at < 2 ^ 61 ⌝ }
+    requires { ⌜ at < 2 ^ 62 ⌝ }
     ensures { λ r. ⌜ r ≡ at + 2 ⌝ }
     ensures { λ r. ⌜ now (out .exit) ≡ sets (now (out .entry)) at (x ∷ y ∷ []) ⌝ }
 {
@@ -90,7 +121,7 @@ pub(crate) fn put_two(out: &mut [u8], at: usize, x: u8, y: u8) -> usize
 }
 
 fn put_byte(out: &mut [u8], at: usize, b: u8) -> usize
-    requires { ⌜ at < 2 ^ 62 ⌝ }
+    requires { ⌜ at < 2 ^ 63 ⌝ }
     ensures { λ r. ⌜ r ≡ at + 1 ⌝ }
     ensures { λ r. ⌜ now (out .exit) ≡ sets (now (out .entry)) at (b ∷ []) ⌝ }
 {

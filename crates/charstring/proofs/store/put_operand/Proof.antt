@@ -1,58 +1,57 @@
-use Rattle.charstring.proofs.Stored.{stored-as, stored-none, Starts, starts-long, starts-within, some-written, none-written}
-use Rattle.number.specs.Number.{charstringRows}
-use Rattle.number.specs.Written.{spelling}
-use mathlib.Core.Path.{refl}
+use mathlib.Core.Bool.{false}
+use Rattle.number.specs.WrittenLaws.{coded-none, coded-bytes, coded-after}
+use native.Mathlib.Omega.{arith}
+use Rattle.charstring.proofs.Stored.{stored-none, stored-form}
 use borrow.Author.Needs.{needs}
 use Rattle.charstring.proofs.store.put_operand.Statement.{statement}
 use Rattle.charstring.proofs.store.put_operand.Tie as tie
+use Rattle.charstring.proofs.store.put_operand.Reads as reads
+use Rattle.charstring.proofs.store.put_operand.Lts as lts
+use Rattle.charstring.proofs.store.put_byte.Reads as put-byte-reads
+use Rattle.charstring.proofs.store.put_low.Reads as put-low-reads
+use Rattle.number.proofs.charstring_form.Reads as charstring-form-reads
 
--- where the bytes are held
-written : (c : tie.After-n)
-    → let o = c .before .before .before .before .before .before .args .o in
-    Starts (c .n .given .0 .0) (c .before .before .before .write-charstring-number .last .1 .0) (spelling charstringRows o)
-written c = some-written _ refl _ _ _ (c .before .before .before .write-charstring-number .ensures) _ (c .n .given .1)
+-- src/store.rt:23:27
+charstring-form-requires : tie.Need-charstring-form-requires
+charstring-form-requires c κs = search needs
 
-slice-aggregate-write-charstring-number : tie.Need-slice-aggregate-write-charstring-number
-slice-aggregate-write-charstring-number c = search needs
+-- src/store.rt:23:19
+enum-known-form : tie.Need-enum-known-form
+enum-known-form c = search needs
 
-write-charstring-number-requires : tie.Need-write-charstring-number-requires
-write-charstring-number-requires c κs = search needs
+-- src/store.rt:24:9
+enum-told : tie.Need-enum-told
+enum-told c = search needs
 
-enum-known-n : tie.Need-enum-known-n
-enum-known-n c = search needs
-
+-- src/store.rt:24:9
 returns : tie.Need-returns
-returns c =
-    let wrote = c .before .before .write-charstring-number in
-    stored-none _ _ (none-written _ refl _ (wrote .result) _ (wrote .ensures) (c .match .keys2))
+returns c = stored-none _ _ (coded-none false _ _ (c .before .before .charstring-form .ensures) (c .enum-told .given .1))
 
-array-share-prefix-held : tie.Need-array-share-prefix-held
-array-share-prefix-held c = starts-within _ _ _ (written (c .before .before))
+-- src/store.rt:26:9
+put-byte-requires : tie.Need-put-byte-requires
+put-byte-requires c κs = search needs
 
-slice-aggregate-put-bytes : tie.Need-slice-aggregate-put-bytes
-slice-aggregate-put-bytes c = starts-long _ _ _ (written (c .before .before .before))
+-- src/store.rt:27:5
+put-low-requires : tie.Need-put-low-requires
+put-low-requires c κs = (omega arith, coded-after false (c .before .before .before .before .before .before .before .before .before .before .args .o) _ (c .before .before .before .before .before .before .before .before .charstring-form .ensures) _ (c .before .before .before .before .before .before .form .given .1))
 
-put-bytes-requires : tie.Need-put-bytes-requires
-put-bytes-requires c κs = search needs
-
+-- src/store.rt:18:1
 same-length : tie.Need-same-length
 same-length c = search needs
 
+-- src/store.rt:18:1
 returns-2 : tie.Need-returns-2
-returns-2 c =
-    let put = c .before .before .put-bytes in
-    stored-as _ _ (written (c .before .before .before .before .before .before) .first) (put .ensures .0) (put .ensures .1)
+returns-2 c = stored-form _ _ _ _ _ _ _ _ (coded-bytes false _ _ (c .before .before .before .before .before .before .before .before .before .before .before .charstring-form .ensures) _ (c .before .before .before .before .before .before .before .before .before .form .given .1)) (c .before .before .before .before .before .before .put-byte .ensures .0) (c .before .before .before .before .before .before .put-byte .ensures .1) (c .before .before .put-low .ensures .0) (c .before .before .put-low .ensures .1)
 
 pub put-operand-spec : {M : Type 1} → statement M
 put-operand-spec =
     tie.close
     (tie.spec
-    slice-aggregate-write-charstring-number
-    write-charstring-number-requires
-    enum-known-n
+    charstring-form-requires
+    enum-known-form
+    enum-told
     returns
-    array-share-prefix-held
-    slice-aggregate-put-bytes
-    put-bytes-requires
+    put-byte-requires
+    put-low-requires
     same-length
     returns-2)
