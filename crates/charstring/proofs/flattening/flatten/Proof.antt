@@ -56,7 +56,8 @@ both : (c : tie.At-match2-keys1)
 unfolding flattening
 both c =
     opened 2 _ _ _ (c .before .well-formed2 .result) (c .match2 .keys1) (locals-formed (c .before))
-    ∙ opened 1 _ _ _ (c .before .before .before .before .well-formed .result) (c .before .before .before .match .keys1) (globals-formed (c .before .before .before .before))
+    ∙ opened 1 _ _ _ (c .before .before .before .before .well-formed .result) (c .before .before .before .match .keys1)
+    (globals-formed (c .before .before .before .before))
 
 rules-of-requires : tie.Need-rules-of-requires
 rules-of-requires c κs = search needs
