@@ -9,7 +9,8 @@ use Rattle.index.specs.declared.list.Formed.{Formed}
 use Rattle.index.specs.declared.list.Formed.the-variants.{Yes, Lacking, BadSize, Emptied, Bad}
 use Rattle.index.proofs.list.Formed as formed-type
 use Rattle.reading.specs.Rules.{Rules, rulesOf}
-use Rattle.reading.specs.Answers.{Flattening, listGate, flattening}
+use Rattle.reading.specs.Reading.{original}
+use Rattle.reading.specs.Answers.{Flattening, listGate, outcome, flattening}
 use Rattle.reading.specs.AnswerLaws.{gate-open}
 use borrow.Author.Needs.{needs}
 use Rattle.charstring.proofs.flattening.flatten.Statement.{statement}
@@ -33,11 +34,6 @@ opened k out f then BadSize h e = absurd (miss (0 ∷ []) 2 tt h)
 opened k out f then Emptied h e = absurd (miss (0 ∷ []) 3 tt h)
 opened k out f then (Bad i) h e = absurd (miss (0 ∷ []) 4 tt h)
 
--- both lists are well formed
-both : (out : List ℕ) (f g : Formation) (z then : Outcome (Answer Flattening)) (r q : Formed) → OneOf (0 ∷ []) (tagOf formed-type.the-type r)
-    → OneOf (0 ∷ []) (tagOf formed-type.the-type q) → formed r ≡ f → formed q ≡ g → z ≡ then → z ≡ listGate 1 out f (listGate 2 out g then)
-both out f g z then r q h k e d x = x ∙ opened 2 out g then q k d ∙ opened 1 out f _ r h e
-
 -- at the width that the rules have
 formed-by : (list : List ℕ) (x y : Rules) (r : Formed) → x ≡ y → formed r ≡ formation (x .width) list → formed r ≡ formation (y .width) list
 formed-by list x y r e q = q ∙ ap (λ (z : Rules). formation (z .width) list) e
@@ -51,6 +47,17 @@ locals-formed : (c : tie.After-well-formed2)
     → let args = c .before .before .before .before .before .before .before .before .before .args in
     formed (c .well-formed2 .result) ≡ formation (rulesOf (args .profile) .width) (args .locals .now)
 locals-formed c = formed-by _ _ _ (c .well-formed2 .result) (c .before .before .before .before .rules-of .ensures) (c .well-formed2 .ensures)
+
+-- both lists are well formed
+both : (c : tie.At-match2-keys1)
+    → let args = c .before .before .before .before .before .before .before .before .before .before .args in
+    let then = outcome (args .out .now) (original (rulesOf (args .profile)) (args .cs .now) (args .globals .now) (args .locals .now) (args .budget)) in
+    then ≡ flattening (rulesOf (args .profile)) (args .cs .now) (args .globals .now) (args .locals .now) (args .budget) (args .out .now)
+unfolding flattening
+both c =
+    opened 2 _ _ _ (c .before .well-formed2 .result) (c .match2 .keys1) (locals-formed (c .before))
+    ∙ opened 1 _ _ _ (c .before .before .before .before .well-formed .result) (c .before .before .before .match .keys1)
+    (globals-formed (c .before .before .before .before))
 
 rules-of-requires : tie.Need-rules-of-requires
 rules-of-requires c κs = search needs
@@ -86,14 +93,7 @@ same-length : tie.Need-same-length
 same-length c = search needs
 
 returns-3 : tie.Need-returns-3
-unfolding flattening
-returns-3 c =
-    let at-match2 = c .before .before .before .before .before in
-    let locals = at-match2 .before in
-    let at-match = locals .before .before in
-    let globals = at-match .before in
-    both _ _ _ _ _ (globals .well-formed .result) (locals .well-formed2 .result) (at-match .match .keys1) (at-match2 .match2 .keys1)
-    (globals-formed globals) (locals-formed locals) (c .before .before .write .ensures)
+returns-3 c = c .before .before .write .ensures ∙ both (c .before .before .before .before .before)
 
 pub flatten-spec : {M : Type 1} → statement M
 flatten-spec =
