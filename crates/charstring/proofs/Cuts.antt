@@ -2,7 +2,7 @@
 use mathlib.Core.Path.{_≡_, refl, sym, ap, subst, _∙_}
 use mathlib.Core.Bool.{Bool, true, false, cond}
 use mathlib.Core.List.{List, [], _∷_, _++_, append-nil}
-use Prim.Native.Nat.{ℕ, zero, suc, _+_, _-_, _<_, _≤_, _/_, _%_}
+use Prim.Native.Nat.{ℕ, zero, suc, _+_, _-_, _<_, _≤_}
 use native.Mathlib.Nat.{add-zero}
 use native.Mathlib.Numerals.{add-one}
 use native.Mathlib.Omega.{arith}
@@ -24,7 +24,7 @@ use Rattle.reading.specs.declared.Rules.{Rules as CodeRules}
 use Rattle.reading.specs.declared.Operator.{Operator}
 use Rattle.reading.specs.declared.Kind.the-variants.{Clear}
 use Rattle.reading.specs.Tokens.{number, operator, token, lacking, escapedAt, operatorAt, cutBy, cut}
-use Rattle.charstring.specs.Words.{operandIn, shortOf, unpackOf}
+use Rattle.charstring.specs.Words.{operandIn, shortOf}
 use Rattle.charstring.specs.Run.{Spelt, stays, Looked}
 use Rattle.charstring.specs.declared.look.Request.the-variants.{Clears, Short}
 use Rattle.charstring.proofs.Operators.{clears-alone, byte-is}
@@ -136,7 +136,7 @@ module _ (b x : ℕ) where
         go (no p) (no q) = rw (le-ltb b 247 (omega arith)) (of-row row251 (lit≤ tt) (at-below false b (omega arith) high) _ 2 refl (λ l. refl) rest)
 
     -- its bytes are its shortest form
-    pub short-spelt : x < 256 → Spelt b x (wideOf b)
+    short-spelt : x < 256 → Spelt b x (wideOf b)
     short-spelt s = go (decLt b 247)
       where
         bytes-of : (k : ℕ) → getD (b ∷ x ∷ []) k 0 < 256
@@ -203,14 +203,3 @@ module _ (cs : List ℕ) (i : ℕ) (h : i < length cs) (c : Clear ≡ byteKind (
     record { begun = record { ahead = omega arith; inside = omega arith; within = t }; cut-is = clear-at },
     stays (sym (c ∙ byte-is operator-here refl)) refl,
   )
-
--- ---- a word that is two bytes of a short number
-
-module _ (w : ℕ) (two : w < 65536) (low : 31 < w % 256) (high : w % 256 < 255) where
-  word-is : shortOf (w % 256) (w / 256) ≡ unpackOf w
-  unfolding unpackOf
-  word-is = rw (lt-ltb w 65536 two)
-
-  pub word-long : (n : ℕ) → wideOf (w % 256) ≡ n → n ≡ length (spelling charstringRows (unpackOf w))
-  word-long n e =
-      sym e ∙ sym (short-spelt (w % 256) (w / 256) low high (omega arith) .long) ∙ ap (λ (o : Operand). length (spelling charstringRows o)) word-is

@@ -1,14 +1,10 @@
 // Operands as words of a lent stack.
-use crate::store::size_of;
 use number::NumberRead;
 use number::Operand;
 use number::bits_of;
 use number::read_charstring_number;
 use number::value_of;
 ghost use mathlib.Core.Path.{_≡_};
-ghost use lib.ListN.{length};
-ghost use Rattle.number.specs.Number.{charstringRows};
-ghost use Rattle.number.specs.Written.{spelling};
 ghost use Rattle.charstring.specs.Words.{unpackOf, shortOf};
 
 // A word that holds o: its value's 32 bits, and above them 1 for an integer and 2 for a Fixed.
@@ -40,22 +36,6 @@ pub(crate) fn unpack(w: u64) -> Operand
         fixed: 8589934592 <= w,
         value: value_of((w % 4294967296) as u32),
     }
-}
-
-// How many bytes the operand that a word holds takes in the flat string. A short number's word is its bytes, and tells it at once.
-pub(crate) fn size_in(w: u64) -> usize
-    ensures { λ r. ⌜ r ≡ length (spelling charstringRows (unpackOf w)) ⌝ }
-{
-    if w < 65536 {
-        let b = w % 256;
-        if 31 < b && b < 247 {
-            return 1;
-        }
-        if 246 < b && b < 255 {
-            return 2;
-        }
-    }
-    size_of(unpack(w))
 }
 
 // The short number of these two bytes.

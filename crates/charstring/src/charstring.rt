@@ -1,9 +1,9 @@
 // Running a charstring: one recursive function over slices, which goes from call to call.
-use crate::argstack::size_in;
 use crate::argstack::unpack;
 use crate::look::Limits;
 use crate::state::State;
 use crate::state::enter;
+use crate::store::size_of;
 use crate::stretch::Ending;
 use crate::stretch::Ran;
 use crate::stretch::Stop;
@@ -42,8 +42,7 @@ pub(crate) fn run<'a>(
             }
             Stop::Call(next, which) => {
                 let top = here.count - 1;
-                let word = stack[top];
-                let o = unpack(word);
+                let o = unpack(stack[top]);
                 let list = choose(which, globals, locals);
                 let target = aim(
                     list,
@@ -62,7 +61,7 @@ pub(crate) fn run<'a>(
                     }
                     Target::Enter(from, to) => {
                         let body = &list[from..to];
-                        let inner = enter(here, size_in(word));
+                        let inner = enter(here, size_of(o));
                         let r = run(body, globals, locals, by, inner, stack, out, levels - 1);
                         let how = r.how;
                         match how {

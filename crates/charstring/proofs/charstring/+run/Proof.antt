@@ -22,7 +22,7 @@ use Rattle.charstring.proofs.argstack.unpack.Reads as unpack-reads
 use Rattle.charstring.proofs.charstring.choose.Reads as choose-reads
 use Rattle.charstring.proofs.charstring.choose_count.Reads as choose-count-reads
 use Rattle.charstring.proofs.state.enter.Reads as enter-reads
-use Rattle.charstring.proofs.argstack.size_in.Reads as size-in-reads
+use Rattle.charstring.proofs.store.size_of.Reads as size-of-reads
 use Rattle.charstring.proofs.stretch.stretch.Reads as stretch-reads
 use Rattle.charstring.proofs.subroutines.aim.Reads as aim-reads
 use Rattle.charstring.proofs.charstring.+run.{statement}
@@ -56,8 +56,8 @@ callees t = (
   choose-count-reads.Learnt,
   aim-reads.Asked,
   aim-reads.Learnt,
-  size-in-reads.Asked,
-  size-in-reads.Learnt,
+  size-of-reads.Asked,
+  size-of-reads.Learnt,
   enter-reads.Asked,
   enter-reads.Learnt,
   run-below t,
@@ -82,11 +82,11 @@ stretch-of t c = c .before .before .before .before .before .before .before
 abbrev call-of : (t : ℕ) → Of run-lts.After-target2 t → Of run-lts.After-stop2 t
 call-of t c = c .before .before .before .before .before .before .before .before .before
 
-abbrev target-of : (t : ℕ) → Of run-lts.After-size-in t → Of run-lts.After-target2 t
+abbrev target-of : (t : ℕ) → Of run-lts.After-size-of t → Of run-lts.After-target2 t
 target-of t c = c .before .before .before
 
-abbrev size-in-of : (t : ℕ) → Of run-lts.After-run t → Of run-lts.After-size-in t
-size-in-of t c = c .before .before .before .before
+abbrev size-of : (t : ℕ) → Of run-lts.After-run t → Of run-lts.After-size-of t
+size-of t c = c .before .before .before .before
 
 -- ---- what is known there
 
@@ -141,15 +141,17 @@ inside : (t : ℕ) (c : Of run-lts.After-target2 t)
 inside t c = subst (Inside _) (c .target2 .given .1) (c .before .before .aim .ensures .1)
 
 -- the bytes of the index, and what is known of an entry
-sized : (t : ℕ) (c : Of run-lts.After-size-in t)
+sized : (t : ℕ) (c : Of run-lts.After-size-of t)
     → let stretch = stretch-of t (call-of t (target-of t c)) .stretch in
-    c .size-in .result ≡ length (spelling charstringRows (unpackOf (getD (stretch .last .1 .1 .1 .1 .0) (stretch .result .st .count - 1) 0)))
-sized t c = c .size-in .ensures
+    c .size-of .result ≡ length (spelling charstringRows (unpackOf (getD (stretch .last .1 .1 .1 .1 .0) (stretch .result .st .count - 1) 0)))
+sized t c =
+    c .size-of .ensures
+    ∙ ap (λ (o : Operand). length (spelling charstringRows o)) (c .before .before .before .before .before .before .before .before .unpack .ensures)
 
-there : (t : ℕ) (c : Of run-lts.After-size-in t)
+there : (t : ℕ) (c : Of run-lts.After-size-of t)
     → let at = stretch-of t (call-of t (target-of t c)) in
     let levels = start-of t (loop-of t at) .args .levels in
-    (c .size-in .result ≤ at .stretch .result .st .length) × (0 < at .stretch .result .st .tail) × (levels ≡ 0 → ⊥)
+    (c .size-of .result ≤ at .stretch .result .st .length) × (0 < at .stretch .result .st .tail) × (levels ≡ 0 → ⊥)
 there t c =
     let x = index-there _ _ _ _ _ _ _ _ _ _ _ _ _ _ (at-call t (call-of t (target-of t c))) _ _ (aims t (target-of t c)) in
     (subst (λ (m : ℕ). m ≤ stretch-of t (call-of t (target-of t c)) .stretch .result .st .length) (sym (sized t c)) (x .0), x .1, x .2)
@@ -157,7 +159,7 @@ there t c =
 -- behind the run of an entry
 module _ (t : ℕ) (c : Of run-lts.After-run t) where
   abbrev at-target : Of run-lts.After-target2 t
-  at-target = target-of t (size-in-of t c)
+  at-target = target-of t (size-of t c)
 
   abbrev at-stretch : Of run-lts.After-stretch t
   at-stretch = stretch-of t (call-of t at-target)
@@ -176,7 +178,7 @@ module _ (t : ℕ) (c : Of run-lts.After-run t) where
       Stands (args .cs .now) (args .globals .now) (args .locals .now) (args .by) (args .levels) (args .stack .now) (args .out .now) (args .s)
       (c .run .last .1 .1 .1 .1 .1 .0) (c .run .last .1 .1 .1 .1 .1 .1 .0) (c .run .result .st) (call-of t at-target .stop2 .given .0 .0)
   back e =
-      arm-back _ _ _ _ _ _ _ _ _ _ _ _ _ _ (at-call t (call-of t at-target)) _ _ (aims t at-target) _ _ (sized t (size-in-of t c))
+      arm-back _ _ _ _ _ _ _ _ _ _ _ _ _ _ (at-call t (call-of t at-target)) _ _ (aims t at-target) _ _ (sized t (size-of t c))
       (c .before .before .before .enter .ensures) _ (at-target .before .before .before .before .choose .ensures) (c .run .result) _ _ (c .run .ensures) e
 
   passed : (c .run .result .how ≡ Back → ⊥)
@@ -184,7 +186,7 @@ module _ (t : ℕ) (c : Of run-lts.After-run t) where
       Gives (args .cs .now) (args .globals .now) (args .locals .now) (args .by) (args .levels) (args .stack .now) (args .out .now) (args .s)
       (c .run .result) (c .run .last .1 .1 .1 .1 .1 .0) (c .run .last .1 .1 .1 .1 .1 .1 .0)
   passed n =
-      arm-passed _ _ _ _ _ _ _ _ _ _ _ _ _ _ (at-call t (call-of t at-target)) _ _ (aims t at-target) _ _ (sized t (size-in-of t c))
+      arm-passed _ _ _ _ _ _ _ _ _ _ _ _ _ _ (at-call t (call-of t at-target)) _ _ (aims t at-target) _ _ (sized t (size-of t c))
       (c .before .before .before .enter .ensures) _ (at-target .before .before .before .before .choose .ensures) (c .run .result) _ _ (c .run .ensures) n
 
 -- ---- the needs
@@ -222,11 +224,11 @@ run-enum-known-stop-2 t c = search needs
 run-sub-top : (t : ℕ) → Of run-lts.Need-sub-top t
 run-sub-top t c = omega (arith, numbers t (c .before .before) .some)
 
-run-mul-word : (t : ℕ) → Of run-lts.Need-mul-word t
-run-mul-word t c = let n = numbers t (c .before .before) in omega (arith, n .numbers, n .some)
+run-mul-unpack : (t : ℕ) → Of run-lts.Need-mul-unpack t
+run-mul-unpack t c = let n = numbers t (c .before .before) in omega (arith, n .numbers, n .some)
 
-run-slice-read-word : (t : ℕ) → Of run-lts.Need-slice-read-word t
-run-slice-read-word t c = let n = numbers t (c .before .before .before) in omega (arith, n .numbers, n .some)
+run-slice-read-unpack : (t : ℕ) → Of run-lts.Need-slice-read-unpack t
+run-slice-read-unpack t c = let n = numbers t (c .before .before .before) in omega (arith, n .numbers, n .some)
 
 run-unpack-requires : (t : ℕ) → Of run-lts.Need-unpack-requires t
 run-unpack-requires t c κs = tt
@@ -272,8 +274,8 @@ run-part-body-start t c = inside t (c .before) .0
 run-part-body-end : (t : ℕ) → Of run-lts.Need-part-body-end t
 run-part-body-end t c = inside t (c .before) .1
 
-run-size-in-requires : (t : ℕ) → Of run-lts.Need-size-in-requires t
-run-size-in-requires t c κs = tt
+run-size-of-requires : (t : ℕ) → Of run-lts.Need-size-of-requires t
+run-size-of-requires t c κs = tt
 
 run-enter-requires : (t : ℕ) → Of run-lts.Need-enter-requires t
 run-enter-requires t c κs =
@@ -306,7 +308,7 @@ run-enum-told t c = search needs
 
 run-loop-less : (t : ℕ) → Of run-lts.Need-loop-less t
 run-loop-less t c =
-    let n = numbers t (call-of t (target-of t (size-in-of t (c .before .before .before .before .before .before .before)))) in omega (arith, n .ahead, n .inside)
+    let n = numbers t (call-of t (target-of t (size-of t (c .before .before .before .before .before .before .before)))) in omega (arith, n .ahead, n .inside)
 
 run-loop-again : (t : ℕ) → Of run-lts.Need-loop-again t
 run-loop-again t c =
@@ -350,8 +352,8 @@ pub +run-spec : {M : Type 1} → statement M
     (run-returns t)
     (run-enum-known-stop-2 t)
     (run-sub-top t)
-    (run-mul-word t)
-    (run-slice-read-word t)
+    (run-mul-unpack t)
+    (run-slice-read-unpack t)
     (run-unpack-requires t)
     (run-choose-requires t)
     (run-choose-count-requires t)
@@ -364,7 +366,7 @@ pub +run-spec : {M : Type 1} → statement M
     (run-sub-body t)
     (run-part-body-start t)
     (run-part-body-end t)
-    (run-size-in-requires t)
+    (run-size-of-requires t)
     (run-enter-requires t)
     (run-sub-run t)
     (run-run-requires t)
