@@ -111,13 +111,15 @@ one-or-two b = go (ltb b 247)
 
 module _ (b x : ℕ) where
   by-row : (r : Row) → r .after ≤ 1 → rowOf b charstringRows ≡ row r → (rest : List ℕ)
-      → readBy charstringRows (b ∷ x ∷ rest) ≡ accepted (record { operand = operandBy r b (beAt (b ∷ x ∷ rest) 1 (r .after)); width = r .after + 1 })
+      → readBy charstringRows (b ∷ x ∷ rest) ≡ accepted
+      (record { operand = operandBy r b (beAt (b ∷ x ∷ rest) 1 (r .after)); width = r .after + 1 })
   unfolding readBy numberBy
   by-row r m e rest =
       rw (ne-eqb (length (b ∷ x ∷ rest)) 0 (λ z. omega arith), e, lt-ltb (r .after) (length (b ∷ x ∷ rest)) (omega arith))
 
   -- by its row, whatever stands behind the two bytes
-  of-row : (r : Row) → r .after ≤ 1 → rowOf b charstringRows ≡ row r → (v w : ℕ) → r .after + 1 ≡ w → ((rest : List ℕ) → beAt (b ∷ x ∷ rest) 1 (r .after) ≡ v)
+  of-row : (r : Row) → r .after ≤ 1 → rowOf b charstringRows ≡ row r → (v w : ℕ) → r .after + 1 ≡ w
+      → ((rest : List ℕ) → beAt (b ∷ x ∷ rest) 1 (r .after) ≡ v)
       → (rest : List ℕ) → readBy charstringRows (b ∷ x ∷ rest) ≡ accepted (record { operand = shortOf b x; width = w })
   unfolding shortOf operandIn
   of-row r m e v w q f rest =

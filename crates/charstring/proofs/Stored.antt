@@ -16,12 +16,14 @@ use Rattle.charstring.specs.WordsLaws.{sets-append}
 
 module _ (l : List ℕ) (at : ℕ) where
   -- some bytes, and others behind them
-  pub stored-then : (xs ys : List ℕ) {n : ℕ} {l₁ l₂ : List ℕ} → l₁ ≡ sets l at xs → n ≡ at + length xs → l₂ ≡ sets l₁ n ys → l₂ ≡ sets l at (xs ++ ys)
+  pub stored-then : (xs ys : List ℕ) {n : ℕ} {l₁ l₂ : List ℕ} → l₁ ≡ sets l at xs
+      → n ≡ at + length xs → l₂ ≡ sets l₁ n ys → l₂ ≡ sets l at (xs ++ ys)
   stored-then xs ys {l₁ = l₁} e m f =
       f ∙ ap (λ (k : ℕ). sets l₁ k ys) m ∙ ap (λ (y : List ℕ). sets y (at + length xs) ys) e ∙ sym (sets-append l at xs ys)
 
   -- the same bytes by another name
-  pub stored-as : {bs cs : List ℕ} {n : ℕ} {l₁ : List ℕ} → bs ≡ cs → n ≡ at + length bs → l₁ ≡ sets l at bs → (n ≡ at + length cs) × (l₁ ≡ sets l at cs)
+  pub stored-as : {bs cs : List ℕ} {n : ℕ} {l₁ : List ℕ} → bs ≡ cs → n ≡ at + length bs
+      → l₁ ≡ sets l at bs → (n ≡ at + length cs) × (l₁ ≡ sets l at cs)
   stored-as e m f = (m ∙ ap (λ (x : List ℕ). at + length x) e, f ∙ ap (sets l at) e)
 
   pub stored-none : {cs : List ℕ} → [] ≡ cs → (at ≡ at + length cs) × (l ≡ sets l at cs)
@@ -75,7 +77,8 @@ low-pair v = refl
 
 -- ---- an operand's bytes: its form's first byte, and the low bytes of the rest
 
-pub stored-form : (l : List ℕ) (at : ℕ) (f : Form) (cs : List ℕ) (n n₁ : ℕ) (l₁ l₂ : List ℕ) → bytes f ≡ cs → n₁ ≡ at + 1 → l₁ ≡ sets l at (f .first ∷ [])
+pub stored-form : (l : List ℕ) (at : ℕ) (f : Form) (cs : List ℕ) (n n₁ : ℕ) (l₁ l₂ : List ℕ)
+    → bytes f ≡ cs → n₁ ≡ at + 1 → l₁ ≡ sets l at (f .first ∷ [])
     → n ≡ n₁ + f .after → l₂ ≡ sets l₁ n₁ (bytesOf (f .after) (f .rest)) → (n ≡ at + length cs) × (l₂ ≡ sets l at cs)
 unfolding bytes
 stored-form l at f cs n n₁ l₁ l₂ e m q k g =

@@ -36,7 +36,8 @@ module _ (levels tail : ℕ) (start size : ℕ) (x : Answer Place) (e : lies sta
 -- ---- the callee
 
 module _ (rules : Rules) (list : List ℕ) (count : ℕ) (o : Operand) (levels tail : ℕ) where
-  pub aimed-entry : (k : ℕ) → accepted k ≡ callee (rules .exact) count o → {x : Answer Place} → x ≡ enterable levels tail (place (rules .width) list k)
+  pub aimed-entry : (k : ℕ) → accepted k ≡ callee (rules .exact) count o → {x : Answer Place}
+      → x ≡ enterable levels tail (place (rules .width) list k)
       → x ≡ aimed rules list count o levels tail
   unfolding aimed aimBy
   aimed-entry k e f = rw (← e) f

@@ -86,7 +86,8 @@ module _ (u : Setup) (stack out : List ℕ) (s : State) (i : ℕ) (h : Here u st
         }
 
     pub by-end : (length₁ : ℕ) (out₁ : List ℕ) → u .rules .kind p ≡ End → s .count < 4
-        → out₁ ≡ sets out (s .length) (operatorBytes p) → length₁ ≡ s .length + length (operatorBytes p) → EndsWith Ended (finished s length₁) out₁
+        → out₁ ≡ sets out (s .length) (operatorBytes p) → length₁ ≡ s .length + length (operatorBytes p)
+        → EndsWith Ended (finished s length₁) out₁
     unfolding struck flat spelled
     by-end length₁ out₁ k l d long =
         let g = ends p (drop j (u .cs)) (a .cut-is) k (subst (λ (n : ℕ). n < 4) (sym (counted-as u stack out s i h .count-is)) l) in

@@ -51,7 +51,8 @@ same-refusal n m t x y p q e = let same : n ≡ m = cc in ap (λ (z : ℕ). refu
 
 module _ (levels : ℕ) (last : Bool) where
   -- where the place of an entry is refused by 9, 10 or 8, so is its token
-  entry-refused : (rest : List ℕ) (t : Now) (c : Entering) (y : Answer Place) (body : List ℕ) (n : ℕ) → admitted levels last (asEntry y) ≡ refused n alone
+  entry-refused : (rest : List ℕ) (t : Now) (c : Entering) (y : Answer Place) (body : List ℕ) (n : ℕ)
+      → admitted levels last (asEntry y) ≡ refused n alone
       → onEntry rest t c (admitted levels last (entryBy body y)) ≡ refuse n t
   unfolding onEntry entryBy admitted
   entry-refused rest t c (refused m v) body n q = same-refusal 9 n t _ _ refl refl q
@@ -63,7 +64,8 @@ module _ (levels : ℕ) (last : Bool) where
       go-by false true q = refused-accepted (sym q)
       go-by false false q = same-refusal 8 n t _ _ refl refl q
 
-  entry-admitted : (y : Answer Place) (p : Place) → admitted levels last (asEntry y) ≡ accepted p → (y ≡ accepted p) × ((levels ≡ 0 → ⊥) × (last ≡ true))
+  entry-admitted : (y : Answer Place) (p : Place) → admitted levels last (asEntry y) ≡ accepted p
+      → (y ≡ accepted p) × ((levels ≡ 0 → ⊥) × (last ≡ true))
   unfolding admitted
   entry-admitted (refused m v) p q = refused-accepted q
   entry-admitted (accepted r) p q = go-by (eqb levels 0) last refl refl q
@@ -82,7 +84,8 @@ pub record Found (w : ℕ) (list : List ℕ) (levels tail : ℕ) (x : Answer ℕ
   pub levels-left : levels ≡ 0 → ⊥
   pub some-last : 0 < tail
 
-found-by : (w : ℕ) (list : List ℕ) (levels tail : ℕ) (x : Answer ℕ) (p : Place) → aimBy w list levels tail x ≡ accepted p → Found w list levels tail x p
+found-by : (w : ℕ) (list : List ℕ) (levels tail : ℕ) (x : Answer ℕ) (p : Place)
+    → aimBy w list levels tail x ≡ accepted p → Found w list levels tail x p
 unfolding aimBy
 found-by w list levels tail (refused n v) p q = refused-accepted q
 found-by w list levels tail (accepted n) p q =
@@ -250,7 +253,8 @@ module _ (u : Setup) (stack out : List ℕ) (s : State) (i : ℕ) (h : Here u st
     pub index-fits : length (spelling charstringRows top) ≤ s .length
     index-fits = let k = h .repr .length-is in let e = long-is in omega arith
 
-    resumed : (f : ℕ) × ((length (drop i (u .cs)) ≤ suc f) × (whole u ≡ resume (λ y. onwards u f (drop j (u .cs)) y) (whole deeper) (whole deeper .how)))
+    resumed : (f : ℕ) × ((length (drop i (u .cs)) ≤ suc f)
+        × (whole u ≡ resume (λ y. onwards u f (drop j (u .cs)) y) (whole deeper) (whole deeper .how)))
     unfolding after
     resumed =
         let x = after-step u stack out s i h inside in

@@ -43,7 +43,8 @@ module _ (rules : Rules) (stack out : List ℕ) (s : State) (t : Now) (r : Repr 
   pub tail-few : s .tail ≤ s .count
   tail-few =
       let m = tail-waits rules (struck (t .shown)) in
-      let e : length (leftBy rules (struck (t .shown)) .operands) ≡ s .count = ap (λ (x : Left). length (x .operands)) (r .good .agree) ∙ counts-of .count-is in
+      let e : length (leftBy rules (struck (t .shown)) .operands) ≡ s .count = ap (λ (x : Left). length (x .operands)) (r .good .agree)
+      ∙ counts-of .count-is in
       let k = r .tail-is in
       omega arith
 

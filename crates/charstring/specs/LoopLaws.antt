@@ -76,7 +76,8 @@ module _ (cs globals locals : List ℕ) (by : Limits) (levels : ℕ) (stack₀ o
     stands-on = (_, h .stands (h .sound .0) (h .sound .1))
 
     -- a stretch from there that ended the string
-    pub arm-done : (r : Stretched) (stack₁ out₁ : List ℕ) → StretchesTo cs by stack out s i r stack₁ out₁ → (how : Ending) → r .stop ≡ Finished how
+    pub arm-done : (r : Stretched) (stack₁ out₁ : List ℕ) → StretchesTo cs by stack out s i r stack₁ out₁
+        → (how : Ending) → r .stop ≡ Finished how
         → Gives (record { how = how; st = r .st }) stack₁ out₁
     unfolding StretchesTo RunsTo
     arm-done r stack₁ out₁ d how e = λ t p.
@@ -186,18 +187,21 @@ module _ (cs globals locals : List ℕ) (by : Limits) (levels : ℕ) (stack₀ o
           unfolding RunsTo
           arm-back c = λ t p.
               let x = b .stands t p in
-              came-back _ stack out r (x .0) (x .2) w next (x .3) list-of (chosenCount w by) (named t) from to e r₁ stack₁ out₁ (ran-there _ (inner t p)) c
+              came-back _ stack out r (x .0) (x .2) w next (x .3) list-of (chosenCount w by)
+              (named t) from to e r₁ stack₁ out₁ (ran-there _ (inner t p)) c
 
           pub arm-passed : (r₁ .how ≡ Back → ⊥) → Gives r₁ stack₁ out₁
           unfolding RunsTo
           arm-passed n = λ t p.
               let x = b .stands t p in
-              passed-on _ stack out r (x .0) (x .2) w next (x .3) list-of (chosenCount w by) (named t) from to e r₁ stack₁ out₁ (ran-there _ (inner t p)) n
+              passed-on _ stack out r (x .0) (x .2) w next (x .3) list-of (chosenCount w by)
+              (named t) from to e r₁ stack₁ out₁ (ran-there _ (inner t p)) n
 
 -- ---- what the code found, in these words
 
 -- a target, by what it was aimed with
-pub aims-at : (rules : _) (l l′ : List ℕ) (n n′ : ℕ) (o o′ : Operand) (levels tail : ℕ) (r x : Target) → l ≡ l′ → n ≡ n′ → o ≡ o′ → r ≡ x
+pub aims-at : (rules : _) (l l′ : List ℕ) (n n′ : ℕ) (o o′ : Operand) (levels tail : ℕ) (r x : Target)
+    → l ≡ l′ → n ≡ n′ → o ≡ o′ → r ≡ x
     → targetOf r ≡ aimed rules l n o levels tail → targetOf x ≡ aimed rules l′ n′ o′ levels tail
 aims-at rules l l′ n n′ o o′ levels tail r x e₁ e₂ e₃ e₄ q =
     ap targetOf (sym e₄) ∙ q ∙ ap (λ (y : List ℕ). aimed rules y n o levels tail) e₁ ∙ ap (λ (y : ℕ). aimed rules l′ y o levels tail) e₂

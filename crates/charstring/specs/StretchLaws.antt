@@ -39,7 +39,8 @@ pub record Safe (stack : List ℕ) (s : State) : Type 0 where
   pub hinted : s .hints ≤ 65535
   pub small-length : s .length ≤ 8197 * s .tokens
 
-pub safe-here : (u : Setup) (stack out : List ℕ) (s : State) (i : ℕ) → Here u stack out s i → u .rules .hints ≤ 65535 → length stack ≤ 65535 → Safe stack s
+pub safe-here : (u : Setup) (stack out : List ℕ) (s : State) (i : ℕ) → Here u stack out s i
+    → u .rules .hints ≤ 65535 → length stack ≤ 65535 → Safe stack s
 safe-here u stack out s i x hints words =
     let r = x .repr in
     let m = small (u .rules) stack out s (x .now) r in
@@ -107,19 +108,23 @@ module _ (cs : List ℕ) (by : Limits) (stack₀ out₀ : List ℕ) (s₀ : Stat
         (d ∙ ap (λ (bs : List ℕ). sets out (s .length) bs) (sym (append-nil (spelling charstringRows o)))) q)
 
     pub arm-short : (j b x w e : ℕ) (out₁ : List ℕ) (s₁ : State) → Asks (Short j b x) → unpackOf w ≡ shortOf b x
-        → out₁ ≡ sets out (s .length) (b ∷ x ∷ []) → e ≡ s .length + (j - i) → s₁ ≡ pushed s e → Stands (set stack (s .count) w) out₁ s₁ j
+        → out₁ ≡ sets out (s .length) (b ∷ x ∷ []) → e ≡ s .length + (j - i)
+        → s₁ ≡ pushed s e → Stands (set stack (s .count) w) out₁ s₁ j
     arm-short j b x w e out₁ s₁ a v d q same =
         becomes _ _ _ _ j same
         (λ g y. by-push (upon cs by g) stack out s i (h .stands g y) words (shortOf b x) j w (a .1 .others) out₁ e (a .0) v
         (d ∙ ap (λ (bs : List ℕ). sets out (s .length) bs) (a .1 .bytes)) (q ∙ ap (λ (n : ℕ). s .length + n) (sym (a .1 .long))))
 
-    pub arm-clear : (p : Operator) (j x e : ℕ) (out₁ : List ℕ) (s₁ : State) → Asks (Clears j x p) → out₁ ≡ sets out (s .length) (operatorBytes p)
+    pub arm-clear : (p : Operator) (j x e : ℕ) (out₁ : List ℕ) (s₁ : State) → Asks (Clears j x p)
+        → out₁ ≡ sets out (s .length) (operatorBytes p)
         → e ≡ s .length + length (operatorBytes p) → s₁ ≡ cleared s x e → Stands stack out₁ s₁ j
     arm-clear p j x e out₁ s₁ a d q same =
         becomes _ _ _ _ j same (λ g y. by-clear (upon cs by g) stack out s i (h .stands g y) words p j x e out₁ (a .0) (a .1) d q)
 
-    pub arm-mask : (p : Operator) (b d c x e₁ e : ℕ) (out₁ out₂ : List ℕ) (s₁ : State) → Asks (Masks b d c x p) → out₁ ≡ sets out (s .length) (operatorBytes p)
-        → e₁ ≡ s .length + length (operatorBytes p) → out₂ ≡ sets out₁ e₁ (take (d - b) (drop b cs)) → e ≡ e₁ + length (take (d - b) (drop b cs))
+    pub arm-mask : (p : Operator) (b d c x e₁ e : ℕ) (out₁ out₂ : List ℕ) (s₁ : State)
+        → Asks (Masks b d c x p) → out₁ ≡ sets out (s .length) (operatorBytes p)
+        → e₁ ≡ s .length + length (operatorBytes p) → out₂ ≡ sets out₁ e₁ (take (d - b) (drop b cs))
+        → e ≡ e₁ + length (take (d - b) (drop b cs))
         → s₁ ≡ masked s c x (d - b) e → Stands stack out₂ s₁ d
     arm-mask p b d c x e₁ e out₁ out₂ s₁ a w₁ q₁ w₂ q same =
         let bs = take (d - b) (drop b cs) in

@@ -29,8 +29,10 @@ use Rattle.charstring.specs.declared.state.State.{State}
 
 module _ (rules : Rules) (stack out : List ℕ) (s : State) (t : Now) (r : Repr rules stack out s t) where
   -- of an item i that leaves x behind, with the stack, the hints and the mask that stand for x
-  emitted : (i : Item) (x : Left) (stack₁ out₁ : List ℕ) (s₁ : State) → Good rules (shows i x t) → Begins out₁ (flat (struck (t .shown)) ++ spelled i)
-      → s₁ .count ≤ length stack₁ → x .operands ≡ stackOf stack₁ (s₁ .count) → x .hints ≡ s₁ .hints → s₁ .hints ≤ rules .hints → x .mask ≡ s₁ .mask
+  emitted : (i : Item) (x : Left) (stack₁ out₁ : List ℕ) (s₁ : State) → Good rules (shows i x t)
+      → Begins out₁ (flat (struck (t .shown)) ++ spelled i)
+      → s₁ .count ≤ length stack₁ → x .operands ≡ stackOf stack₁ (s₁ .count) → x .hints ≡ s₁ .hints
+      → s₁ .hints ≤ rules .hints → x .mask ≡ s₁ .mask
       → s₁ .tokens ≡ s .tokens + 1 → s₁ .tail ≡ tailOf (i ∷ struck (t .shown)) → s₁ .length ≡ s .length + length (spelled i)
       → Repr rules stack₁ out₁ s₁ (shows i x t)
   unfolding struck flat
@@ -67,7 +69,8 @@ drop-both a b l h = drop-drop (b - a) a l ∙ ap (λ (n : ℕ). drop n l) (let e
 module _ (u : Setup) (stack out : List ℕ) (s : State) (i : ℕ) (h : Here u stack out s i) (words : u .rules .operands ≤ length stack) where
   -- others may be stored behind an operand: they are not part of the flat string yet
   pub by-push : (o : Operand) (j w : ℕ) (others out₁ : List ℕ) (length₁ : ℕ) → Pushes (u .rules) (u .cs) i (u .budget) s j o
-      → unpackOf w ≡ o → out₁ ≡ sets out (s .length) (spelling charstringRows o ++ others) → length₁ ≡ s .length + length (spelling charstringRows o)
+      → unpackOf w ≡ o → out₁ ≡ sets out (s .length) (spelling charstringRows o ++ others)
+      → length₁ ≡ s .length + length (spelling charstringRows o)
       → Here u (set stack (s .count) w) out₁ (pushed s length₁) j
   unfolding spelled tailOf
   by-push o j w others out₁ length₁ p e d long =
@@ -107,7 +110,8 @@ module _ (u : Setup) (stack out : List ℕ) (s : State) (i : ℕ) (h : Here u st
         (stored (u .rules) stack out s (h .now) (h .repr) (operatorBytes p) out₁ d) zero-le ops hs hinted mask refl refl long)
 
     pub by-clear : (j hints length₁ : ℕ) (out₁ : List ℕ) → AtOperator (u .cs) i j (s .tokens) (u .budget) p → Hinted (u .rules) s p hints
-        → out₁ ≡ sets out (s .length) (operatorBytes p) → length₁ ≡ s .length + length (operatorBytes p) → Here u stack out₁ (cleared s hints length₁) j
+        → out₁ ≡ sets out (s .length) (operatorBytes p) → length₁ ≡ s .length + length (operatorBytes p)
+        → Here u stack out₁ (cleared s hints length₁) j
     by-clear j hints length₁ out₁ a (stays k e) d long =
         let r = h .repr in
         clear-turn j hints length₁ (without (h .now .left)) out₁ a (clears p (drop j (u .cs)) (a .cut-is) k) d long refl (r .hints-are ∙ sym e)
@@ -139,7 +143,8 @@ module _ (u : Setup) (stack out : List ℕ) (s : State) (i : ℕ) (h : Here u st
         let wide : length m ≡ b - a = length-take-le (b - a) (drop a (u .cs)) (omega (arith, length-drop a (u .cs))) in
         goes-on u stack out s i h b _ _ _ (masked s c hints (b - a) length₁) (let z = q .begun .ahead in omega arith) bn
         (taken u stack out s i h (q .begun .within) _ g₁)
-        (emitted (u .rules) stack out s (h .now) (h .repr) (mask-of p m) now-fixed stack out₁ (masked s c hints (b - a) length₁) (led u stack out s i h _ g₁ .1)
+        (emitted (u .rules) stack out s (h .now) (h .repr) (mask-of p m) now-fixed stack out₁
+        (masked s c hints (b - a) length₁) (led u stack out s i h _ g₁ .1)
         (stored (u .rules) stack out s (h .now) (h .repr) (operatorBytes p ++ m) out₁ d) room ops hs most ms refl refl
         (let e = length-append (operatorBytes p) m in omega arith))
 

@@ -102,7 +102,8 @@ fn draft<'a>(
     held: &mut [u8],
 ) -> Flattened
     ensures { λ r. ⌜ flattened r ≡ verdict (original (rulesOf profile) (now (cs .entry)) (now (globals .entry)) (now (locals .entry)) budget) ⌝ }
-    ensures { λ r. ⌜ Begins (now (held .exit)) (flatOf (original (rulesOf profile) (now (cs .entry)) (now (globals .entry)) (now (locals .entry)) budget)) ⌝ }
+    ensures { λ r. ⌜ Begins (now (held .exit))
+        (flatOf (original (rulesOf profile) (now (cs .entry)) (now (globals .entry)) (now (locals .entry)) budget)) ⌝ }
 {
     let rules = rules_of(profile);
     let by = limits_of(rules, budget, globals, locals);

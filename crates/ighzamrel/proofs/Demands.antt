@@ -91,7 +91,8 @@ module _ (κs : Lfts 4) (a : Dens κs kinds.ps) (x : AtExit (endedOf 4 kinds.ps 
     abbrev old : FlatPlaces
     old = record { length = a′ .1 .1 .1 .1 .1 .1 .0 .now; tokens = a′ .1 .1 .1 .1 .1 .1 .1 .0 .now }
 
-    again : flattening (rulesOf (profileOf (a′ .1 .1 .1 .0))) (a′ .0 .now) (a′ .1 .0 .now) (a′ .1 .1 .0 .now) (a′ .1 .1 .1 .1 .0) (a′ .1 .1 .1 .1 .1 .0 .now)
+    again : flattening (rulesOf (profileOf (a′ .1 .1 .1 .0))) (a′ .0 .now) (a′ .1 .0 .now)
+        (a′ .1 .1 .0 .now) (a′ .1 .1 .1 .1 .0) (a′ .1 .1 .1 .1 .1 .0 .now)
         ≡ leaving (accepted (record { size = n; tokens = items })) (reported ++ drop n (a′ .1 .1 .1 .1 .1 .0 .now))
     again =
         let none = no-entries (profileOf (a .1 .1 .1 .0)) in

@@ -48,7 +48,8 @@ read-charstring-number-once κs a r r′ x x′ p p′ =
 
 pub read-dict-integer-once : (κs : Lfts 3) (a : Dens κs dict-kinds.ps) (r r′ : resT dict-kinds.r κs .Denot)
     (x x′ : AtExit (endedOf 3 dict-kinds.ps dict-kinds.r) κs)
-    → dict-reads.Post κs a r x → dict-reads.Post κs a r′ x′ → (r ≡ r′) × (x .1 .0 .now ≡ x′ .1 .0 .now) × (x .1 .1 .0 .now ≡ x′ .1 .1 .0 .now)
+    → dict-reads.Post κs a r x → dict-reads.Post κs a r′ x′ → (r ≡ r′)
+    × (x .1 .0 .now ≡ x′ .1 .0 .now) × (x .1 .1 .0 .now ≡ x′ .1 .1 .0 .now)
 read-dict-integer-once κs a r r′ x x′ p p′ =
     let e = p ∙ sym p′ in
     (ap (λ (t : Told IntegerPlaces). t .number) e, ap (λ (t : Told IntegerPlaces). t .places .value) e, ap (λ (t : Told IntegerPlaces). t .places .width) e)
@@ -61,7 +62,8 @@ write-charstring-number-once κs a r r′ x x′ p p′ = written-once (p ∙ sy
 
 pub write-dict-integer-once : (κs : Lfts 2) (a : Dens κs dict-write-kinds.ps) (r r′ : resT dict-write-kinds.r κs .Denot)
     (x x′ : AtExit (endedOf 2 dict-write-kinds.ps dict-write-kinds.r) κs)
-    → dict-write-reads.Post κs a r x → dict-write-reads.Post κs a r′ x′ → (r ≡ r′) × (x .1 .0 .now ≡ x′ .1 .0 .now) × (x .1 .1 .0 .now ≡ x′ .1 .1 .0 .now)
+    → dict-write-reads.Post κs a r x → dict-write-reads.Post κs a r′ x′ → (r ≡ r′)
+    × (x .1 .0 .now ≡ x′ .1 .0 .now) × (x .1 .1 .0 .now ≡ x′ .1 .1 .0 .now)
 write-dict-integer-once κs a r r′ x x′ p p′ = written-once (p ∙ sym p′)
 
 pub call-index-once : (κs : Lfts 1) (a : Dens κs index-kinds.ps) (r r′ : resT index-kinds.r κs .Denot)
@@ -71,19 +73,26 @@ call-index-once κs a r r′ x x′ p p′ = (ap (λ (t : Told ℤ). t .number) 
 
 pub read-index-once : (κs : Lfts 3) (a : Dens κs read-kinds.ps) (r r′ : resT read-kinds.r κs .Denot)
     (x x′ : AtExit (endedOf 3 read-kinds.ps read-kinds.r) κs)
-    → read-reads.Post κs a r x → read-reads.Post κs a r′ x′ → (r ≡ r′) × (x .1 .0 .now ≡ x′ .1 .0 .now) × (x .1 .1 .0 .now ≡ x′ .1 .1 .0 .now)
+    → read-reads.Post κs a r x → read-reads.Post κs a r′ x′ → (r ≡ r′)
+    × (x .1 .0 .now ≡ x′ .1 .0 .now) × (x .1 .1 .0 .now ≡ x′ .1 .1 .0 .now)
 read-index-once κs a r r′ x x′ p p′ =
-    let e = p ∙ sym p′ in (ap (λ (t : Told Extent). t .number) e, ap (λ (t : Told Extent). t .places .entries) e, ap (λ (t : Told Extent). t .places .taken) e)
+    let e = p ∙ sym p′ in (
+      ap (λ (t : Told Extent). t .number) e,
+      ap (λ (t : Told Extent). t .places .entries) e,
+      ap (λ (t : Told Extent). t .places .taken) e,
+    )
 
 pub read-entry-once : (κs : Lfts 3) (a : Dens κs entry-kinds.ps) (r r′ : resT entry-kinds.r κs .Denot)
     (x x′ : AtExit (endedOf 3 entry-kinds.ps entry-kinds.r) κs)
-    → entry-reads.Post κs a r x → entry-reads.Post κs a r′ x′ → (r ≡ r′) × (x .1 .1 .0 .now ≡ x′ .1 .1 .0 .now) × (x .1 .1 .1 .0 .now ≡ x′ .1 .1 .1 .0 .now)
+    → entry-reads.Post κs a r x → entry-reads.Post κs a r′ x′ → (r ≡ r′) × (x .1 .1 .0 .now ≡ x′ .1 .1 .0 .now)
+    × (x .1 .1 .1 .0 .now ≡ x′ .1 .1 .1 .0 .now)
 read-entry-once κs a r r′ x x′ p p′ =
     let e = p ∙ sym p′ in (ap (λ (t : Told Place). t .number) e, ap (λ (t : Told Place). t .places .start) e, ap (λ (t : Told Place). t .places .size) e)
 
 pub write-index-once : (κs : Lfts 4) (a : Dens κs write-kinds.ps) (r r′ : resT write-kinds.r κs .Denot)
     (x x′ : AtExit (endedOf 4 write-kinds.ps write-kinds.r) κs)
-    → write-reads.Post κs a r x → write-reads.Post κs a r′ x′ → (r ≡ r′) × (x .1 .1 .0 .now ≡ x′ .1 .1 .0 .now) × (x .1 .1 .1 .0 .now ≡ x′ .1 .1 .1 .0 .now)
+    → write-reads.Post κs a r x → write-reads.Post κs a r′ x′ → (r ≡ r′) × (x .1 .1 .0 .now ≡ x′ .1 .1 .0 .now)
+    × (x .1 .1 .1 .0 .now ≡ x′ .1 .1 .1 .0 .now)
 write-index-once κs a r r′ x x′ p p′ = written-once (p ∙ sym p′)
 
 pub flatten-once : (κs : Lfts 4) (a : Dens κs flatten-kinds.ps) (r r′ : resT flatten-kinds.r κs .Denot)

@@ -98,7 +98,8 @@ module _ (κs : Lfts 1) where
       → in-reads.Post κs a r x → in-reads.Post κs a r′ x′ → r ≡ r′
   entry-in-once a r r′ x x′ p p′ = one entryRead entry-of entry-undo r r′ (p ∙ sym p′)
 
-  pub well-formed-once : (a : Dens κs formed-kinds.ps) (r r′ : resT formed-kinds.r κs .Denot) (x x′ : AtExit (endedOf 1 formed-kinds.ps formed-kinds.r) κs)
+  pub well-formed-once : (a : Dens κs formed-kinds.ps) (r r′ : resT formed-kinds.r κs .Denot)
+      (x x′ : AtExit (endedOf 1 formed-kinds.ps formed-kinds.r) κs)
       → formed-reads.Post κs a r x → formed-reads.Post κs a r′ x′ → r ≡ r′
   well-formed-once a r r′ x x′ p p′ = one formed formed-of formed-undo r r′ (p ∙ sym p′)
 
@@ -107,6 +108,7 @@ module _ (κs : Lfts 1) where
       → part-reads.Post κs a r x → part-reads.Post κs a r′ x′ → (r .ptr ≡ r′ .ptr) × (r .now ≡ r′ .now)
   entry-part-once a r r′ x x′ p p′ = let e = p ∙ sym p′ in (ap (λ (q : Part). q .at) e, ap (λ (q : Part). q .bytes) e)
 
-  pub part-in-once : (a : Dens κs part-in-kinds.ps) (r r′ : resT part-in-kinds.r κs .Denot) (x x′ : AtExit (endedOf 1 part-in-kinds.ps part-in-kinds.r) κs)
+  pub part-in-once : (a : Dens κs part-in-kinds.ps) (r r′ : resT part-in-kinds.r κs .Denot)
+      (x x′ : AtExit (endedOf 1 part-in-kinds.ps part-in-kinds.r) κs)
       → part-in-reads.Post κs a r x → part-in-reads.Post κs a r′ x′ → (r .ptr ≡ r′ .ptr) × (r .now ≡ r′ .now)
   part-in-once a r r′ x x′ p p′ = let e = p ∙ sym p′ in (ap (λ (q : Part). q .at) e, ap (λ (q : Part). q .bytes) e)

@@ -65,6 +65,7 @@ pub lists :
 unfolding formation formedBy entriesFrom place placeIn placeBy absent extent byCount bySize byLast offset beAt
 lists = (refl, refl, refl, refl, refl, refl)
 
-pub widths : (extent 4 wide ≡ has 1 8) × (place 4 wide 0 ≡ lies 7 1) × (extent 4 (0 ∷ 0 ∷ 1 ∷ []) ≡ refused 20 alone) × (formation 4 wide ≡ yes 1)
+pub widths : (extent 4 wide ≡ has 1 8) × (place 4 wide 0 ≡ lies 7 1)
+    × (extent 4 (0 ∷ 0 ∷ 1 ∷ []) ≡ refused 20 alone) × (formation 4 wide ≡ yes 1)
 unfolding formation formedBy entriesFrom place placeIn placeBy absent extent byCount bySize byLast offset beAt
 widths = (refl, refl, refl, refl)

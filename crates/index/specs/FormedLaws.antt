@@ -78,7 +78,8 @@ isYes (bad i) = false
 not-yes : {n : ℕ} {f : Formation} → isYes f ≡ false → yes n ≡ f → ⊥
 not-yes h e = true≢false (ap isYes e ∙ h)
 
-is-there : (x : Answer Place) {n : ℕ} {f : Formation} (i : ℕ) → yes n ≡ cond (isPresent x) f (bad i) → ((p : Place) × (accepted p ≡ x)) × (yes n ≡ f)
+is-there : (x : Answer Place) {n : ℕ} {f : Formation} (i : ℕ) → yes n ≡ cond (isPresent x) f (bad i)
+    → ((p : Place) × (accepted p ≡ x)) × (yes n ≡ f)
 is-there (accepted p) i e = ((p, refl), e)
 is-there (refused k v) i e = absurd (not-yes refl e)
 

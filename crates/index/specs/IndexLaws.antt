@@ -97,7 +97,11 @@ module _ (w : ℕ) (s : List ℕ) where
         unfolding bySize
         no-offsets p k l =
             let z≢ : getD s w 0 ≡ 0 → ⊥ = λ z. omega arith in
-            let t : refused 20 alone ≡ bySize w s n (getD s w 0) = rw (ne-eqb (getD s w 0) 0 z≢, le-ltb 4 (getD s w 0) k, lt-ltb (length s) (dataOf w s n) l) in
+            let t : refused 20 alone ≡ bySize w s n (getD s w 0) = rw (
+              ne-eqb (getD s w 0) 0 z≢,
+              le-ltb 4 (getD s w 0) k,
+              lt-ltb (length s) (dataOf w s n) l,
+            ) in
             t ∙ to-size
 
   module _ {n : ℕ} (h : Headed w s n) where
@@ -222,7 +226,8 @@ module _ (i : ℕ) (x : Extent) (d a b : ℕ) where
   unfolding placeBy absent
   by-passing h = simp (lt-ltb (x .taken) (d + (b - 1)) h, or-true)
 
-  pub by-order : {y m : ℕ} → i < x .entries → 0 < a → a ≤ b → d + (b - 1) ≤ x .taken → y ≡ d + (a - 1) → m ≡ b - a → lies y m ≡ placeBy i x d a b
+  pub by-order : {y m : ℕ} → i < x .entries → 0 < a → a ≤ b → d + (b - 1) ≤ x .taken
+      → y ≡ d + (a - 1) → m ≡ b - a → lies y m ≡ placeBy i x d a b
   unfolding placeBy absent
   by-order h p k l at long =
       let a≢ : a ≡ 0 → ⊥ = λ e. omega arith in
@@ -306,7 +311,8 @@ between i x d a b p m h =
       long = ap size-of (same (g .1));
     }
 
-pub between-inside : (i : ℕ) (x : Extent) (d a b : ℕ) (s : List ℕ) → x .taken ≤ length s → (y : Answer Place) → y ≡ placeBy i x d a b → Inside s y
+pub between-inside : (i : ℕ) (x : Extent) (d a b : ℕ) (s : List ℕ) → x .taken ≤ length s
+    → (y : Answer Place) → y ≡ placeBy i x d a b → Inside s y
 between-inside i x d a b s h (accepted p) e = let g = between i x d a b (p .start) (p .size) e in omega arith
 between-inside i x d a b s h (refused k v) e = tt
 
@@ -362,7 +368,8 @@ no-part w s i k h = rw (← h)
 -- ---- where a part stands
 
 module _ (at : ℕ × ℕ) (s : List ℕ) where
-  pub part-lies : (a m : ℕ) {o : ℕ} {l : List ℕ} → o ≡ at .1 + a → l ≡ take m (drop a s) → record { at = (at .0, o); bytes = l } ≡ partBy at s (lies a m)
+  pub part-lies : (a m : ℕ) {o : ℕ} {l : List ℕ} → o ≡ at .1 + a → l ≡ take m (drop a s)
+      → record { at = (at .0, o); bytes = l } ≡ partBy at s (lies a m)
   unfolding partBy startBy bytesBy
   part-lies a m p q = rw (p, q)
 

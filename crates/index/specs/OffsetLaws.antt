@@ -37,7 +37,8 @@ pub two-bytes : (s : List ℕ) (at : ℕ) {a b : ℕ} → a ≡ getD s at 0 → 
 unfolding beAt
 two-bytes s at p q = rw (p, q, add-zero at) (omega arith)
 
-pub four-bytes : (s : List ℕ) (at : ℕ) {a b c d : ℕ} → a ≡ getD s at 0 → b ≡ getD s (at + 1) 0 → c ≡ getD s (at + 2) 0 → d ≡ getD s (at + 3) 0
+pub four-bytes : (s : List ℕ) (at : ℕ) {a b c d : ℕ} → a ≡ getD s at 0 → b ≡ getD s (at + 1) 0
+    → c ≡ getD s (at + 2) 0 → d ≡ getD s (at + 3) 0
     → ((a * 256 + b) * 256 + c) * 256 + d ≡ beAt s at 4
 unfolding beAt
 four-bytes s at p q r t = rw (p, q, r, t, add-zero at) (omega arith)
@@ -65,7 +66,8 @@ module _ (w : ℕ) (s : List ℕ) (bytes : (i : ℕ) → getD s i 0 < 256) where
       let e : 4 - z + z ≡ 4 = omega arith in
       let p : dataStart w i z - 4 + (4 - z) ≡ w + 1 + i * z = omega (arith, start-is w i z) in
       rw (k .ones, and-mask (beAt s (dataStart w i z - 4) 4) (8 * z))
-      (ap (λ (x : ℕ). beAt s (dataStart w i z - 4) x % 2 ^ (8 * z)) (sym e) ∙ last-bytes s (dataStart w i z - 4) (4 - z) z bytes ∙ ap (λ (x : ℕ). beAt s x z) p)
+      (ap (λ (x : ℕ). beAt s (dataStart w i z - 4) x % 2 ^ (8 * z)) (sym e)
+      ∙ last-bytes s (dataStart w i z - 4) (4 - z) z bytes ∙ ap (λ (x : ℕ). beAt s x z) p)
 
 -- a word of ones, shifted until so many bytes are left
 pub sized-shift : (z gap : ℕ) → 0 < z → z ≤ 4 → gap ≡ 8 * (4 - z) → Sized z (4294967295 / 2 ^ gap)

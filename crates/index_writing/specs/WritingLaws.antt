@@ -101,7 +101,8 @@ pub size-holds : (s : ℕ) → s ≤ 4294967295 → Holds (sizeFor s) s
 unfolding sizeFor
 size-holds s h = go (leb s 255) refl (leb s 65535) refl (leb s 16777215) refl
   where
-    go : (a : Bool) → leb s 255 ≡ a → (b : Bool) → leb s 65535 ≡ b → (c : Bool) → leb s 16777215 ≡ c → Holds (cond a 1 (cond b 2 (cond c 3 4))) s
+    go : (a : Bool) → leb s 255 ≡ a → (b : Bool) → leb s 65535 ≡ b → (c : Bool)
+        → leb s 16777215 ≡ c → Holds (cond a 1 (cond b 2 (cond c 3 4))) s
     go true p b q c r = record { some = omega arith; four = omega arith; holds = omega (arith, leb-true s 255 p) }
     go false p true q c r = record { some = omega arith; four = omega arith; holds = omega (arith, leb-true s 65535 q) }
     go false p false q true r = record { some = omega arith; four = omega arith; holds = omega (arith, leb-true s 16777215 r) }
@@ -231,7 +232,8 @@ module _ (w : ℕ) (ls joined s : List ℕ) (z : ℕ) (sized : z ≡ sizeFor (to
       )
       (ap (λ (l : List ℕ). laid 0 l s) (index-some w ls joined h))
 
-  pub some-laid : (length ls ≡ 0 → ⊥) → w < length s → (p o l : List ℕ) → p ≡ putAt s 0 w (length ls) → o ≡ laid (w + 1) (offsets z 1 ls) (set p w z)
+  pub some-laid : (length ls ≡ 0 → ⊥) → w < length s → (p o l : List ℕ) → p ≡ putAt s 0 w (length ls)
+      → o ≡ laid (w + 1) (offsets z 1 ls) (set p w z)
       → l ≡ laid (dataStart w (length ls) z) joined o → l ≡ laid 0 (indexBytes w ls joined) s
   some-laid h k p o l ep eo el =
       el ∙ ap (laid (dataStart w (length ls) z) joined) (eo ∙ ap (λ (q : List ℕ). laid (w + 1) (offsets z 1 ls) (set q w z)) ep) ∙ in-turn h k

@@ -148,7 +148,8 @@ left-as {A} e = ap (λ (o : Outcome A). o .left) e
 -- ---- each public function
 
 pub read-charstring-number-once : (κs : Lfts 1) (a : Dens κs charstring-kinds.ps) (r r′ : resT charstring-kinds.r κs .Denot)
-    (x x′ : AtExit (endedOf 1 charstring-kinds.ps charstring-kinds.r) κs) → charstring-reads.Post κs a r x → charstring-reads.Post κs a r′ x′ → r ≡ r′
+    (x x′ : AtExit (endedOf 1 charstring-kinds.ps charstring-kinds.r) κs) → charstring-reads.Post κs a r x
+    → charstring-reads.Post κs a r′ x′ → r ≡ r′
 read-charstring-number-once κs a r r′ x x′ p p′ = one-read r r′ (p ∙ sym p′)
 
 pub read-dict-integer-once : (κs : Lfts 1) (a : Dens κs dict-kinds.ps) (r r′ : resT dict-kinds.r κs .Denot)
@@ -197,7 +198,8 @@ value-of-once κs a r r′ x x′ p p′ = p ∙ sym p′
 -- ---- each answer's number
 
 pub number-read-once : (κs : Lfts 0) (a : Dens κs number-read-kinds.ps) (r r′ : resT number-read-kinds.r κs .Denot)
-    (x x′ : AtExit (endedOf 0 number-read-kinds.ps number-read-kinds.r) κs) → number-read-reads.Post κs a r x → number-read-reads.Post κs a r′ x′ → r ≡ r′
+    (x x′ : AtExit (endedOf 0 number-read-kinds.ps number-read-kinds.r) κs) → number-read-reads.Post κs a r x
+    → number-read-reads.Post κs a r′ x′ → r ≡ r′
 number-read-once κs a r r′ x x′ p p′ = p ∙ sym p′
 
 pub number-written-once : (κs : Lfts 0) (a : Dens κs number-written-kinds.ps) (r r′ : resT number-written-kinds.r κs .Denot)

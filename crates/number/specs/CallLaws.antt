@@ -146,7 +146,8 @@ module _ (exact : Bool) (count : ℕ) (o : Operand) where
 
 -- ---- a call is refused with 7 or with 9
 
-index-refusal : (t : Bool) (x y : ℤ) (n : ℕ) (v : Values) (u : Bool) → cond u (cond t (accepted x) (refused 7 alone)) (accepted y) ≡ refused n v → n ≡ 7
+index-refusal : (t : Bool) (x y : ℤ) (n : ℕ) (v : Values) (u : Bool)
+    → cond u (cond t (accepted x) (refused 7 alone)) (accepted y) ≡ refused n v → n ≡ 7
 index-refusal true x y n v true e = let z : _≡_ {A = ℕ} 0 1 = cc in absurd (omega arith)
 index-refusal false x y n v true e = cc
 index-refusal t x y n v false e = let z : _≡_ {A = ℕ} 0 1 = cc in absurd (omega arith)
@@ -183,7 +184,8 @@ exact-index o z e = go (o .fixed) (counts true (natAbs (o .value))) refl e
     m : ℕ
     m = natAbs (o .value)
 
-    go : (f t : Bool) → counts true m ≡ t → cond f (cond t (accepted (signedAs (o .value) (nearest m))) (refused 7 alone)) (accepted (o .value)) ≡ accepted z
+    go : (f t : Bool) → counts true m ≡ t
+        → cond f (cond t (accepted (signedAs (o .value) (nearest m))) (refused 7 alone)) (accepted (o .value)) ≡ accepted z
         → cond f (cond (counts false m) (accepted (signedAs (o .value) (nearest m))) (refused 7 alone)) (accepted (o .value)) ≡ accepted z
     go true true h e = rw (exact-counts m h) e
     go true false h e = let w : _≡_ {A = ℕ} 0 1 = cc in absurd (omega arith)

@@ -46,7 +46,8 @@ unfolding spelling bytesBy bytes bytesOf spell formBy rowsOf integerRows unsigne
 three-bytes = (refl, refl, refl)
 
 -- five bytes in a DICT; a charstring has none for this integer (document 01, "Numbers")
-pub five-bytes : (writtenInDict (pos 32768) ≡ 0x1D ∷ 0x00 ∷ 0x00 ∷ 0x80 ∷ 0x00 ∷ []) × (spell charstringRows (integer (pos 32768)) ≡ refused 17 alone)
+pub five-bytes : (writtenInDict (pos 32768) ≡ 0x1D ∷ 0x00 ∷ 0x00 ∷ 0x80 ∷ 0x00 ∷ [])
+    × (spell charstringRows (integer (pos 32768)) ≡ refused 17 alone)
 unfolding spelling bytesBy bytes bytesOf spell formBy rowsOf integerRows unsigned
 five-bytes = (refl, refl)
 

@@ -19,7 +19,8 @@ use Rattle.number.specs.RoundTripLaws.{read-row}
 
 -- a row of one byte or two writes what it reads, a first byte b and v after it
 abbrev Kept : Row → Type 0
-Kept r = r .after ≤ 1 → (b v : ℕ) → r .first ≤ b → b ≤ r .last → v < 2 ^ (8 * r .after) → accepted (form b (r .after) v) ≡ spell integerRows (operandBy r b v)
+Kept r = r .after ≤ 1 → (b v : ℕ) → r .first ≤ b → b ≤ r .last → v < 2 ^ (8 * r .after)
+    → accepted (form b (r .after) v) ≡ spell integerRows (operandBy r b v)
 
 kept32 : Kept row32
 unfolding valueBy
@@ -34,7 +35,8 @@ kept32 m b v h k l = let z : v ≡ 0 = omega arith in ap (λ (w : ℕ). accepted
         rw (le-ltb b 139 (omega arith)) (ap (λ (x : ℕ). accepted (form x 0 0)) e ∙ up-one (b - 139) (omega arith))
 
 -- the two bytes of d past 108 from zero
-pair-is : (first b v d : ℕ) → first ≤ b → v < 256 → d ≡ (b - first) * 256 + v → accepted (form b 1 v) ≡ accepted (form (first + d / 256) 1 (d % 256))
+pair-is : (first b v d : ℕ) → first ≤ b → v < 256 → d ≡ (b - first) * 256 + v
+    → accepted (form b 1 v) ≡ accepted (form (first + d / 256) 1 (d % 256))
 pair-is first b v d h l q =
     let e : b ≡ first + d / 256 = omega arith in
     let f : v ≡ d % 256 = omega arith in
@@ -48,7 +50,8 @@ kept251 : Kept row251
 unfolding valueBy
 kept251 m b v h k l = below (pairOf 251 b v) (omega arith) (omega arith) (omega arith)
   where
-    below : (n : ℕ) → n - 108 ≡ (b - 251) * 256 + v → 108 ≤ n → n ≤ 1131 → accepted (form b 1 v) ≡ spell integerRows (integer (negℤ (pos n)))
+    below : (n : ℕ) → n - 108 ≡ (b - 251) * 256 + v → 108 ≤ n → n ≤ 1131
+        → accepted (form b 1 v) ≡ spell integerRows (integer (negℤ (pos n)))
     below zero q low high = absurd (omega arith)
     below (suc n) q low high = pair-is 251 b v (n - 107) h l (omega arith) ∙ down-two n (omega arith) (omega arith)
 

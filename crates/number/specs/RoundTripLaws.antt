@@ -267,8 +267,14 @@ Ascending (r ∷ rs) = Every (λ (q : Row). r .after ≤ q .after) rs × Ascendi
 
 ascending : (dict : Bool) → Ascending (rowsOf dict)
 unfolding rowsOf integerRows
-ascending true = ((lit≤ tt, (lit≤ tt, (lit≤ tt, (lit≤ tt, tt)))), ((lit≤ tt, (lit≤ tt, (lit≤ tt, tt))), ((lit≤ tt, (lit≤ tt, tt)), ((lit≤ tt, tt), (tt, tt)))))
-ascending false = ((lit≤ tt, (lit≤ tt, (lit≤ tt, (lit≤ tt, tt)))), ((lit≤ tt, (lit≤ tt, (lit≤ tt, tt))), ((lit≤ tt, (lit≤ tt, tt)), ((lit≤ tt, tt), (tt, tt)))))
+ascending true = (
+  (lit≤ tt, (lit≤ tt, (lit≤ tt, (lit≤ tt, tt)))),
+  ((lit≤ tt, (lit≤ tt, (lit≤ tt, tt))), ((lit≤ tt, (lit≤ tt, tt)), ((lit≤ tt, tt), (tt, tt)))),
+)
+ascending false = (
+  (lit≤ tt, (lit≤ tt, (lit≤ tt, (lit≤ tt, tt)))),
+  ((lit≤ tt, (lit≤ tt, (lit≤ tt, tt))), ((lit≤ tt, (lit≤ tt, tt)), ((lit≤ tt, tt), (tt, tt)))),
+)
 
 -- a form for o, of so many bytes after the first at the most
 record Formed (rs : List Row) (o : Operand) (most : ℕ) : Type 0 where

@@ -168,7 +168,8 @@ dict-five z v h b e =
 module _ (o : Operand) where
   -- an integer, in a charstring
   pub charstring-integer : (x : Coded) → o .fixed ≡ false → coded x ≡ spell integerRows (integer (o .value)) → coded x ≡ spell (rowsOf false) o
-  charstring-integer (Is f) t e = table-left o false f (subst (λ (b : Bool). accepted f ≡ spell integerRows (record { fixed = b; value = o .value })) (sym t) e)
+  charstring-integer (Is f) t e = table-left o false f
+      (subst (λ (b : Bool). accepted f ≡ spell integerRows (record { fixed = b; value = o .value })) (sym t) e)
   charstring-integer Outside t e =
       let kind : Bool → Operand = λ (b : Bool). record { fixed = b; value = o .value } in
       let e′ : refused 17 alone ≡ spell integerRows o = subst (λ (b : Bool). refused 17 alone ≡ spell integerRows (kind b)) (sym t) e in

@@ -69,7 +69,8 @@ accepted-tokens ended n a = refl
 accepted-tokens (stopped k) n a = absurd a
 
 -- a run that the budget stopped
-spent-outcome : (out : List ℕ) (r : Run) (b : ℕ) → r .how ≡ stopped 3 → count (r .state) ≡ b → outcome out r ≡ leaving (refused 3 (atToken b)) out
+spent-outcome : (out : List ℕ) (r : Run) (b : ℕ) → r .how ≡ stopped 3 → count (r .state) ≡ b
+    → outcome out r ≡ leaving (refused 3 (atToken b)) out
 unfolding outcome readyBy into tokensBy
 spent-outcome out r b h k =
     ap (λ (e : Ending). into out (readyBy r e)) h
@@ -126,7 +127,8 @@ module _ (rules : Rules) (cs globals locals : List ℕ) where
     -- ---- other rules
 
     -- rules that are no tighter give the same answer and bytes
-    pub answer-looser : (other : Rules) → Tighter rules other → flattening other cs globals locals budget out ≡ flattening rules cs globals locals budget out
+    pub answer-looser : (other : Rules) → Tighter rules other
+        → flattening other cs globals locals budget out ≡ flattening rules cs globals locals budget out
     answer-looser other t =
         let same = tighter-reading rules other t (listsOf (rules .width) globals locals) budget cs (flattening-took .accepted-run) in
         alike other (t .width) budget

@@ -134,7 +134,8 @@ module _ (b : ℕ) (on on′ : State → Run) (f : (t : State) → Beside b t (o
       by-reach c l m (no d) =
           subst (λ (y : Run). (y .how ≡ stopped 3) × (count (y .state) ≡ b)) (sym (went-on (p .same a (omega arith)))) (q .less c (omega arith) m)
 
-  resumed-beside : (t : State) (r r′ : Run) → Beside b t r r′ → (e : Ending) → r .how ≡ e → Beside b t (resume on r e) (resume on′ r′ (r′ .how))
+  resumed-beside : (t : State) (r r′ : Run) → Beside b t r r′ → (e : Ending) → r .how ≡ e
+      → Beside b t (resume on r e) (resume on′ r′ (r′ .how))
   unfolding resume
   resumed-beside t r r′ p back h = came-back t r r′ p h
   resumed-beside t r r′ p ended h =
@@ -153,7 +154,8 @@ module _ (b : ℕ) (s : State) where
       record { grows = let g = p .grows in omega arith; same = p .same; less = λ c l m. p .less c (omega arith) m }
 
   -- the token is begun under both budgets
-  both-begin : (levels : ℕ) (on on′ below below′ : List ℕ → State → Run) → Besides b on on′ → ((levels ≡ 0 → ⊥) → Besides b below below′)
+  both-begin : (levels : ℕ) (on on′ below below′ : List ℕ → State → Run) → Besides b on on′
+      → ((levels ≡ 0 → ⊥) → Besides b below below′)
       → count s < b → (x : Step) → Grown s x → Entered levels x → Beside b s (after on below x) (after on′ below′ x)
   unfolding after
   both-begin levels on on′ below below′ f g h (halt e t) l n =
@@ -189,7 +191,8 @@ module _ (rules : Rules) (lists : Lists) (b b′ : ℕ) where
     unfolding onToken
     step-spent n h = rw (le-ltb (count s) n h)
 
-    module _ (on on′ below below′ : List ℕ → State → Run) (f : Besides b′ on on′) (g : (levels ≡ 0 → ⊥) → Besides b′ below below′) where
+    module _ (on on′ below below′ : List ℕ → State → Run) (f : Besides b′ on on′)
+        (g : (levels ≡ 0 → ⊥) → Besides b′ below below′) where
       abbrev here : ℕ → Step
       here n = onToken rules lists n levels at bytes s
 
@@ -231,7 +234,8 @@ module _ (rules : Rules) (lists : Lists) (b b′ : ℕ) where
   ran-out : (s : State) → Beside b′ s (record { how = back; state = s }) (record { how = back; state = s })
   ran-out s = record { grows = le-refl (count s); same = λ c l. refl; less = λ c l m. absurd (omega arith) }
 
-  tokens-beside : (levels : ℕ) (below below′ : List ℕ → State → Run) → ((levels ≡ 0 → ⊥) → Besides b′ below below′) → (size fuel : ℕ)
+  tokens-beside : (levels : ℕ) (below below′ : List ℕ → State → Run)
+      → ((levels ≡ 0 → ⊥) → Besides b′ below below′) → (size fuel : ℕ)
       → Besides b′ (tokensOf rules lists b levels below size fuel) (tokensOf rules lists b′ levels below′ size fuel)
   unfolding tokensOf
   tokens-beside levels below below′ g size zero bytes s = ran-out s

@@ -85,7 +85,8 @@ module _ (t : Token) (rest : List ℕ) where
     by-number x e =
         record { behind = bytes-drop (x .width) bytes h; sound = read-spellable false bytes h x e }
 
-  by-escape : (s : List ℕ) (v : Values) → Bytes s → readBy charstringRows (12 ∷ s) ≡ refused 6 v → escapedAt s ≡ token t rest → CutOff (12 ∷ s) t rest
+  by-escape : (s : List ℕ) (v : Values) → Bytes s → readBy charstringRows (12 ∷ s) ≡ refused 6 v
+      → escapedAt s ≡ token t rest → CutOff (12 ∷ s) t rest
   unfolding escapedAt
   by-escape [] v h e q = no-token q
   by-escape (b ∷ s) v h e q =
@@ -96,7 +97,8 @@ module _ (t : Token) (rest : List ℕ) where
       → cond x (escapedAt s) (token (operator (record { escaped = false; byte = b })) s) ≡ token t rest → CutOff (b ∷ s) t rest
   by-byte b s v h e true k q =
       let twelve : b ≡ 12 = eqb-true b 12 k in
-      subst (λ (c : ℕ). CutOff (c ∷ s) t rest) (sym twelve) (by-escape s v h (subst (λ (c : ℕ). readBy charstringRows (c ∷ s) ≡ refused 6 v) twelve e) q)
+      subst (λ (c : ℕ). CutOff (c ∷ s) t rest) (sym twelve)
+      (by-escape s v h (subst (λ (c : ℕ). readBy charstringRows (c ∷ s) ≡ refused 6 v) twelve e) q)
   by-byte b s v h e false k q =
       moved (b ∷ s) (operator (record { escaped = false; byte = b })) s q
       (record { behind = h; sound = λ more. as-operator b s more v e ∙ unescaped b k more })

@@ -44,7 +44,8 @@ module _ (rules : Rules) where
     unfolding leftBy leaves byKind hasMask declared waiting
     tied-stem p e first (before h m n k) =
         before h (ap (λ (y : Kind). byKind y x .mask) e ∙ m)
-        (ap (λ (y : Kind). byKind y x .hints) e ∙ hints-are ∙ sym (ap (λ (y : Kind). cond (isStem y) (declared rules f + waiting f / 2) (declared rules f)) e))
+        (ap (λ (y : Kind). byKind y x .hints) e ∙ hints-are
+        ∙ sym (ap (λ (y : Kind). cond (isStem y) (declared rules f + waiting f / 2) (declared rules f)) e))
         (ap (λ (y : Kind). length (byKind y x .operands)) e)
       where
         hints-are : x .hints + length (x .operands) / 2 ≡ declared rules f + waiting f / 2
@@ -62,7 +63,8 @@ module _ (rules : Rules) where
         (ap (λ (y : Kind). length (byKind y x .operands)) e)
     tied-clear p e (behind h q m) =
         behind h (subst (λ (y : Kind). 0 < byKind y x .mask) (sym e) q)
-        (ap (λ (y : Kind). byKind y x .mask) e ∙ m ∙ sym (ap (λ (y : Kind). (cond (isStem y) (declared rules f + waiting f / 2) (declared rules f) + 7) / 8) e))
+        (ap (λ (y : Kind). byKind y x .mask) e ∙ m
+        ∙ sym (ap (λ (y : Kind). (cond (isStem y) (declared rules f + waiting f / 2) (declared rules f) + 7) / 8) e))
 
     tied-mask : (p : _) (m : List ℕ) → length m ≡ atMask x .mask → Tied rules f → Tied rules (masked p m ∷ f)
     unfolding leftBy leaves hasMask declared waiting

@@ -35,7 +35,8 @@ module _ (rules : Rules) (lists : Lists) (budget : ℕ) (Here : List ℕ → Typ
   Runs f = (bytes : List ℕ) (s : State) → Here bytes → At s → DoneBy (f bytes s)
 
   module _ (k : Kept) where
-    resumed : (on : State → Run) → ((s : State) → At s → DoneBy (on s)) → (r : Run) (e : Ending) → r .how ≡ e → DoneBy r → DoneBy (resume on r e)
+    resumed : (on : State → Run) → ((s : State) → At s → DoneBy (on s)) → (r : Run) (e : Ending)
+        → r .how ≡ e → DoneBy r → DoneBy (resume on r e)
     unfolding resume
     resumed on f r back h d = f (closed (r .state)) (k .on (r .state) (subst (λ (e : Ending). Done e (r .state)) h d))
     resumed on f r ended h d = d
@@ -116,4 +117,5 @@ module _ (rules : Rules) (lists : Lists) (budget levels : ℕ) (below : List ℕ
       let at = size - length (b ∷ bs) in
       rw suc-add
       (same-after _ _ (length (b ∷ bs)) (λ rest t l. fuel-enough size fuel more rest t (omega arith))
-      (onToken rules lists budget levels at (b ∷ bs) s) (fewer rules lists levels at (b ∷ bs) s budget _ (token-is rules lists levels at (b ∷ bs) s budget)))
+      (onToken rules lists budget levels at (b ∷ bs) s)
+      (fewer rules lists levels at (b ∷ bs) s budget _ (token-is rules lists levels at (b ∷ bs) s budget)))

@@ -201,7 +201,8 @@ module _ (rules : Rules) (cs globals locals : List ℕ) (budget : ℕ) (out : Li
   enough : length items ≤ x .tokens
   enough = subst (λ (n : ℕ). length items ≤ n) (sym (took .tokens-are)) (items-tokens rules lists budget cs entries bytes (took .accepted-run))
 
-  flattened-again : (out₁ : List ℕ) → x .size ≤ length out₁ → flattening rules (flatOf run) (empty rules) (empty rules) (x .tokens) out₁ ≡ gives items out₁
+  flattened-again : (out₁ : List ℕ) → x .size ≤ length out₁
+      → flattening rules (flatOf run) (empty rules) (empty rules) (x .tokens) out₁ ≡ gives items out₁
   unfolding flattening
   flattened-again out₁ h =
       let j = just-again rules lists budget cs entries bytes (took .accepted-run) (listsOf (rules .width) (empty rules) (empty rules)) (x .tokens) enough in

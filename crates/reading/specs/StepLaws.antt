@@ -100,7 +100,8 @@ module _ (rules : Rules) (lists : Lists) (levels at : ℕ) (bytes : List ℕ) (s
         abbrev named : ℕ → Entering
         named n = record { list = which; entry = n; at = at; index = o }
 
-        view-entry : (n : ℕ) → callee (rules .exact) (listed lists which .count) o ≡ accepted n → (e : Entry (List ℕ)) → listed lists which .entry n ≡ e
+        view-entry : (n : ℕ) → callee (rules .exact) (listed lists which .count) o ≡ accepted n
+            → (e : Entry (List ℕ)) → listed lists which .entry n ≡ e
             → View (onEntry rest s (named n) (admitted levels (endsInOperand (struck (s .shown))) e))
         unfolding onEntry admitted
         view-entry n c absent f = declines 9 (λ e. omega arith)
@@ -116,7 +117,8 @@ module _ (rules : Rules) (lists : Lists) (levels at : ℕ) (bytes : List ℕ) (s
             by-levels true t = declines 10 (λ e. omega arith)
             by-levels false t = by-last (endsInOperand (struck (s .shown))) refl (eqb-false levels 0 t)
 
-        view-index : (a : Answer ℕ) → callee (rules .exact) (listed lists which .count) o ≡ a → View (onIndex levels rest s which (listed lists which) at o a)
+        view-index : (a : Answer ℕ) → callee (rules .exact) (listed lists which .count) o ≡ a
+            → View (onIndex levels rest s which (listed lists which) at o a)
         unfolding onIndex
         view-index (accepted n) c = view-entry n c (listed lists which .entry n) refl
         view-index (refused n v) c = declines n (λ e. not-three n e (callee-refusal _ _ _ n v c))
@@ -196,7 +198,8 @@ module _ (rules : Rules) (lists : Lists) (budget levels at : ℕ) (bytes : List 
     end-taken l = rw (lt-ltb (length (s .left .operands)) 4 l)
 
     call-taken : (c : Entering) (ops : List Operand) (body : List ℕ) → c .at ≡ at → s .left .operands ≡ c .index ∷ ops
-        → callee (rules .exact) (listed lists (c .list) .count) (c .index) ≡ accepted (c .entry) → listed lists (c .list) .entry (c .entry) ≡ present body
+        → callee (rules .exact) (listed lists (c .list) .count) (c .index) ≡ accepted (c .entry)
+        → listed lists (c .list) .entry (c .entry) ≡ present body
         → (levels ≡ 0 → ⊥) → endsInOperand (struck (s .shown)) ≡ true
         → onOperator rules lists levels at rest s p (Call (c .list))
         ≡ enter body rest (entered c s)

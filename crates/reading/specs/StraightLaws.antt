@@ -16,7 +16,25 @@ use Rattle.reading.specs.Rules.{Rules}
 use Rattle.reading.specs.Lists.{Lists}
 use Rattle.reading.specs.Tokens.{number, token, cutBy, cut}
 use Rattle.reading.specs.Items.{Item, operand, bare, masked, Left, pushed, cleared, counted, atMask, byKind, leaves, leftBy}
-use Rattle.reading.specs.Reading.{Shown, item, struck, State, start, back, ended, Run, Step, go, shows, onToken, after, tokensOf, read, reading, Accepted}
+use Rattle.reading.specs.Reading.{
+  Shown,
+  item,
+  struck,
+  State,
+  start,
+  back,
+  ended,
+  Run,
+  Step,
+  go,
+  shows,
+  onToken,
+  after,
+  tokensOf,
+  read,
+  reading,
+  Accepted,
+}
 use Rattle.reading.specs.Flat.{operatorBytes, spelled, flat, Straight, isMask, shownBehind, behind, straightFrom, straight}
 use Rattle.reading.specs.StepLaws.{Goes, pushes, stems, clears, masks, ends, token-goes}
 use Rattle.reading.specs.Valid.{Valid, none, number-behind, stem-behind, clear-behind, mask-behind, Whole, open-ended, end-behind, Cuttable}
@@ -218,7 +236,8 @@ module _ (rules : Rules) where
         clear-again k fuel z =
             led (bare p) (cleared (leftBy rules f)) fuel (operatorBytes p ++ z) z (there z) (bare-leaves Clear k) (clears p z (c z) k)
 
-        mask-again : (m : List ℕ) → rules .kind p ≡ Mask → atMask (leftBy rules f) .hints ≤ rules .hints → length m ≡ atMask (leftBy rules f) .mask
+        mask-again : (m : List ℕ) → rules .kind p ≡ Mask → atMask (leftBy rules f) .hints ≤ rules .hints
+            → length m ≡ atMask (leftBy rules f) .mask
             → OneAgain f (masked p m)
         unfolding spelled leaves
         mask-again m k l n fuel z =
@@ -261,7 +280,8 @@ module _ (rules : Rules) where
     ran-out (suc fuel) s = refl
 
     -- an endchar behind valid items ends everything
-    end-again : (f : List Item) (p : Operator) → Cuttable p → rules .kind p ≡ End → length (leftBy rules f .operands) < 4 → length f < budget → (fuel : ℕ)
+    end-again : (f : List Item) (p : Operator) → Cuttable p → rules .kind p ≡ End
+        → length (leftBy rules f .operands) < 4 → length f < budget → (fuel : ℕ)
         → runs (suc fuel) (operatorBytes p ++ []) (stateOf f)
         ≡ record { how = ended; state = record { left = leftBy rules f; shown = item (bare p) ∷ shownOf f; within = [] } }
     unfolding after
@@ -297,7 +317,8 @@ module _ (rules : Rules) (lists : Lists) (budget levels : ℕ) (below : List ℕ
       subst (Just (bare p ∷ g)) (sym e) (record { accepted = tt; shown = refl })
 
 -- the bytes of the items, read as a charstring with any lists
-pub read-again : (rules : Rules) (lists : Lists) (budget : ℕ) (f : List Item) → Whole rules f → length f ≤ budget → Just f (reading rules lists budget (flat f))
+pub read-again : (rules : Rules) (lists : Lists) (budget : ℕ) (f : List Item) → Whole rules f
+    → length f ≤ budget → Just f (reading rules lists budget (flat f))
 unfolding reading read
 read-again rules lists budget f w h = go (rules .levels)
   where

@@ -16,7 +16,23 @@ use Rattle.reading.specs.Rules.{Rules, plain, strict}
 use Rattle.reading.specs.Lists.{Lists}
 use Rattle.reading.specs.Reading.{State, start, Ending, back, ended, stopped, Run, Step, halt, go}
 use Rattle.reading.specs.Reading.{enter, onToken, resume, after, tokensOf, read, reading, Accepted}
-use Rattle.reading.specs.StepLaws.{declines, goes, Goes, pushes, stems, clears, masks, enters, returns, ends, Stepped, spent, begun, token-is, token-goes}
+use Rattle.reading.specs.StepLaws.{
+  declines,
+  goes,
+  Goes,
+  pushes,
+  stems,
+  clears,
+  masks,
+  enters,
+  returns,
+  ends,
+  Stepped,
+  spent,
+  begun,
+  token-is,
+  token-goes,
+}
 use Rattle.reading.specs.BudgetLaws.{never-accepted, Entered}
 use Rattle.reading.specs.declared.Operator.{Operator}
 
@@ -32,7 +48,8 @@ pub record Tighter (a b : Rules) : Type 0 where
 pub strict-tighter : Tighter strict plain
 strict-tighter = record { operands = le-refl 48; levels = lit≤ tt; hints = lit≤ tt; exact = λ e. refl; width = refl; kind = λ p. refl }
 
-loose-callee : (t u : Bool) → (u ≡ true → t ≡ true) → (n : ℕ) (o : Operand) (k : ℕ) → callee t n o ≡ accepted k → callee u n o ≡ accepted k
+loose-callee : (t u : Bool) → (u ≡ true → t ≡ true) → (n : ℕ) (o : Operand) (k : ℕ)
+    → callee t n o ≡ accepted k → callee u n o ≡ accepted k
 loose-callee true true h n o k e = e
 loose-callee true false h n o k e = exact-callee n o k e
 loose-callee false true h n o k e = let z : false ≡ true = h refl in subst (λ (x : Bool). callee x n o ≡ accepted k) z e
@@ -89,7 +106,8 @@ module _ (a b : Rules) (t : Tighter a b) (lists : Lists) (budget : ℕ) where
       by-view x (begun y h (goes z v)) c =
           ap (after on′ below′) (token-goes b lists budget levels′ at bytes s h z (taken z v)) ∙ followed z (entered z v) c
 
-  tokens-follow : (levels levels′ : ℕ) → levels ≤ levels′ → (below below′ : List ℕ → State → Run) → ((levels ≡ 0 → ⊥) → Follows below below′)
+  tokens-follow : (levels levels′ : ℕ) → levels ≤ levels′ → (below below′ : List ℕ → State → Run)
+      → ((levels ≡ 0 → ⊥) → Follows below below′)
       → (size fuel : ℕ) → Follows (tokensOf a lists budget levels below size fuel) (tokensOf b lists budget levels′ below′ size fuel)
   unfolding tokensOf
   tokens-follow levels levels′ deep below below′ g size zero bytes s c = refl

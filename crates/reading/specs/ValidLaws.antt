@@ -105,7 +105,8 @@ module _ (rules : Rules) (s : State) (g : Good rules s) (c : Entering) (ops : Li
   unfolding struck
   call-good =
       record {
-        agree = left-popped rules (c .index) (drop 1 (struck (s .shown))) ∙ ap (λ (f : List Item). popped (leftBy rules f)) (sym last) ∙ ap popped (g .agree);
+        agree = left-popped rules (c .index) (drop 1 (struck (s .shown)))
+            ∙ ap (λ (f : List Item). popped (leftBy rules f)) (sym last) ∙ ap popped (g .agree);
         valid = valid-popped rules (c .index) (drop 1 (struck (s .shown))) (subst (Valid rules) last (g .valid));
         taken = (last, g .taken);
       }

@@ -173,7 +173,8 @@ module _ {M : Type 1} (𝓤 : URA M) (H : Heap 𝓤) (A : Atoms 𝓤) (W : Given
       size-fits : h .size < 2 ^ 64
       size-fits = LL.owed N.the-type N′.the-laws h _ is .1 .1 .0 .1
 
-    module _ (C : Calls 𝓤 H) (Λ : Loops 𝓤 H) (fm : FmC 𝓤 H (W .laws) C) (to-call : Triple 𝓤 (C #head-of) HeadOf × Triple 𝓤 (C #first) First) where
+    module _ (C : Calls 𝓤 H) (Λ : Loops 𝓤 H) (fm : FmC 𝓤 H (W .laws) C)
+        (to-call : Triple 𝓤 (C #head-of) HeadOf × Triple 𝓤 (C #first) First) where
       walk : Is S s (mach s ∷ []) → ent 𝓤 Entry (WpFn 𝓤 H C Λ code.function (mach s ∷ []) Post)
       walk p =
           qed W (raw Entry ∷ []) ∵ enter ! C Λ code.function (mach s ∷ []) _ $
@@ -204,7 +205,8 @@ module _ {M : Type 1} (𝓤 : URA M) (H : Heap 𝓤) (A : Atoms 𝓤) (W : Given
           (init ! 9 refl
           (tt, ((tt, (record { fits = is′ .0 .1 .0 }, tt)), (record { fits = count-fits h is }, (record { fits = size-fits h is }, tt))))) $
           returns ! (look ! 9 refl) $ forget ! 3 refl $ forget ! 5 refl $ forget ! 7 refl $ forget ! 9 refl $
-          move ! (9 ∷ 10 ∷ []) $ free1 ! $ move ! (7 ∷ 8 ∷ []) $ free1 ! $ move ! (5 ∷ 6 ∷ []) $ free1 ! $ move ! (3 ∷ 4 ∷ []) $ free1 ! $ free0 ! $
+          move ! (9 ∷ 10 ∷ []) $ free1 ! $ move ! (7 ∷ 8 ∷ []) $ free1 ! $ move ! (5 ∷ 6 ∷ []) $
+          free1 ! $ move ! (3 ∷ 4 ∷ []) $ free1 ! $ free0 ! $
           by ! (exits h b e f (count-fits h is) (size-fits h is))))))))))
 
   view-index-walks : (C : Calls 𝓤 H) (Λ : Loops 𝓤 H) → FmC 𝓤 H (W .laws) C → Triple 𝓤 (C #head-of) HeadOf × Triple 𝓤 (C #first) First

@@ -20,7 +20,8 @@ can c = record { few = omega arith; short = omega arith; adds = omega arith }
 sized : (c : tie.After-size-for) → c .size-for .result ≡ sizeFor (total (start (c .before) .args .lengths .now) + 1)
 sized c = c .size-for .ensures ∙ ap (λ (n : ℕ). sizeFor (n + 1)) (c .before .before .before .sum-of .ensures)
 
-whole : (c : tie.After-needed-for) → let a = start (c .before .before) .args in c .needed-for .result ≡ length (indexBytes 2 (a .lengths .now) (a .joined .now))
+whole : (c : tie.After-needed-for)
+    → let a = start (c .before .before) .args in c .needed-for .result ≡ length (indexBytes 2 (a .lengths .now) (a .joined .now))
 whole c =
     let ls = start (c .before .before) .args .lengths .now in
     let joined = start (c .before .before) .args .joined .now in

@@ -65,7 +65,8 @@ callees t = (
 )
 
 -- a place, and what a need asks, at the callees' contracts, the invariant and the measure
-abbrev Of : (run-lts.Claims → In 3 run-kinds.ps → Out 3 run-kinds.ps run-kinds.r → run-lts.InvT-loop → run-lts.MeasureT-loop → Type 0) → ℕ → Type 0
+abbrev Of : (run-lts.Claims → In 3 run-kinds.ps → Out 3 run-kinds.ps run-kinds.r
+    → run-lts.InvT-loop → run-lts.MeasureT-loop → Type 0) → ℕ → Type 0
 Of need t = need (callees t) (run-at t) run.Post run-Inv-loop run-μ-loop
 
 -- ---- where each place came from

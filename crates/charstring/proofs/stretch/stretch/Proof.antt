@@ -239,7 +239,8 @@ loop-again-4 c =
       at-loop .loop .inv .0,
       m .kept .0 ∙ p .kept .0 ∙ at-loop .loop .inv .1,
       omega (arith, a .turn .further, a .looked .0 .begun, a .looked .3),
-      arm-mask _ _ _ _ _ _ _ _ _ _ (a .turn) _ _ _ _ _ _ _ _ _ _ (a .looked) (p .ensures .1) (p .ensures .0) (m .ensures .1) (m .ensures .0) (c .mask .ensures),
+      arm-mask _ _ _ _ _ _ _ _ _ _ (a .turn) _ _ _ _ _ _ _ _ _ _ (a .looked) (p .ensures .1)
+          (p .ensures .0) (m .ensures .1) (m .ensures .0) (c .mask .ensures),
     )
 
 -- ---- the ends
