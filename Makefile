@@ -3,7 +3,7 @@ SECONDS =
 SOURCES = ../shared
 export SOURCES
 
-.PHONY: kit test run lib native list differential faults fixed fuzz fuzz-faults bench clean
+.PHONY: kit test run lib native list driver differential faults fixed fuzz fuzz-faults bench clean
 
 # the proofs, the compiler and the loader are the kit's
 kit:
@@ -33,41 +33,42 @@ native: kit
 	@tools/lib target/native
 	@echo 'native: target/native has libighzamrel.a, include/ighzamrel.h and pkgconfig/ighzamrel.pc for this machine'
 
-# the stored list of the program `cases`, made anew from the Rust's answers and document 01's rules
+# the stored list of the program `cases`, made anew from the Rust's answers and the rules
 list:
 	tools/oracle/build
-	target/oracle/oracle list crates/cases
+	target/oracle/driver list crates/cases
 
-# flattening, the proved C function against the Rust and document 01's model in one process: all strings of up to three bytes, CASES random
-# ones, damaged ones, and the glyphs of the fonts in the folders FONTS; with SECONDS, a sample of so many seconds. SEED repeats a run.
+# every operation, the proved functions against the Rust and the rules in one process: the stored list and more, all charstrings of up to three
+# bytes, CASES random charstrings and the other operations beside them, and the glyphs of the fonts in the folders FONTS; with SECONDS, a sample
+# of so many seconds. SEED repeats a run.
 CASES = 10000000
 SEED =
 FONTS =
-differential:
+differential: driver
+	target/oracle/driver compare CASES=$(CASES) SECONDS=$(SECONDS) SEED=$(SEED) FONTS='$(FONTS)'
+
+# the driver over the library as it stands now
+driver:
 	tools/native-staticlib ighzamrel
-	tools/oracle/build flatten
-	target/oracle/flatten CASES=$(CASES) SECONDS=$(SECONDS) SEED=$(SEED) FONTS='$(FONTS)'
+	tools/tried
+	tools/oracle/build
 
 # that comparison against faults that are planted in the Rust and before the library, at most SECONDS for each
-faults:
-	tools/native-staticlib ighzamrel
-	tools/oracle/build flatten
+faults: driver
 	tools/oracle/faults $(or $(SECONDS),20) $(SEED)
 
 # all 2^32 Fixed values as call indexes, the proved function against the Rust
-fixed:
-	tools/native-staticlib ighzamrel
-	tools/oracle/build fixed
-	target/oracle/fixed
+fixed: driver
+	target/oracle/driver fixed
 
-# the nine C functions under libFuzzer for SECONDS, against the Rust and document 01's rules; what it learns is kept in the folder CORPUS
+# every operation under libFuzzer for SECONDS, against the Rust and the rules; what it learns is kept in the folder CORPUS
 CORPUS = target/fuzz/corpus
-fuzz:
+fuzz: driver
 	fuzz/build
-	fuzz/run target $(or $(SECONDS),60) $(CORPUS)
+	fuzz/run $(or $(SECONDS),60) $(CORPUS)
 
 # that target against faults that are planted before the library, at most SECONDS for each
-fuzz-faults:
+fuzz-faults: driver
 	fuzz/build
 	fuzz/faults $(or $(SECONDS),60)
 

@@ -1,12 +1,14 @@
-//! The C functions of the proved library, as the Rust crate has them. A binary links only those that it calls.
-#![allow(dead_code, unused_imports)]
+//! The C functions of the proved library, as the Rust crate has them, and those that `tools/tried` exports besides.
 
 #[path = "../../bindings/rust/src/ffi.rs"]
+#[allow(dead_code)]
 mod ffi;
 
 pub use ffi::c::*;
-pub use ffi::flatten_to;
 
-/// The profiles as the library takes them.
-pub const PLAIN: u32 = 0;
-pub const STRICT: u32 = 1;
+extern "C" {
+    pub fn tried_callee(kind: u32, value: i32, profile: u32, count: u32, entry: *mut u32) -> u32;
+    pub fn tried_well_formed(bytes: *const u8, size: usize, told: *mut u32) -> u32;
+    pub fn tried_view_length(bytes: *const u8, size: usize, number: u32) -> usize;
+    pub fn tried_view_byte(bytes: *const u8, size: usize, number: u32, at: usize) -> u8;
+}

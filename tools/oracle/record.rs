@@ -1,98 +1,86 @@
-//! The records of the program `cases`: made, taken apart, and laid in a row.
+//! A call as the program `cases` has it: a record, and the line that is owed for it.
 
-/// A record without its length: an operation byte and its arguments.
-pub type Record = Vec<u8>;
+use crate::operation::{Argument, Call, Operation, Outcome};
 
 /// The most bytes that a record may have, and the most room that it may ask for.
 pub const MOST: usize = 1_048_576;
 
-/// A record that is still being given its arguments.
-pub struct Making(Record);
+/// The line for a record that is none.
+pub const UNREADABLE: &str = "?";
 
-pub fn operation(op: u8) -> Making {
-    Making(vec![op])
-}
-
-impl Making {
-    pub fn u8(mut self, v: u8) -> Self {
-        self.0.push(v);
-        self
+impl Call<'_> {
+    /// Each argument in a record's order: one byte, a word, or a length and its bytes.
+    pub fn record(&self) -> Vec<u8> {
+        let mut record = vec![self.operation.number];
+        for argument in self.operation.arguments {
+            match *argument {
+                Argument::Kind => record.push(self.kind as u8),
+                Argument::Profile => record.push(self.profile as u8),
+                Argument::Value => record.extend(self.value.to_be_bytes()),
+                Argument::Number => record.extend(self.number.to_be_bytes()),
+                Argument::Budget => record.extend(self.budget.to_be_bytes()),
+                Argument::Room => record.extend((self.room as u32).to_be_bytes()),
+                Argument::Bytes(i) | Argument::List(i) => {
+                    record.extend((self.slices[i].len() as u32).to_be_bytes());
+                    record.extend(&self.slices[i][..]);
+                }
+                Argument::Lengths => {
+                    record.extend((self.slices[0].len() as u32 / 4).to_be_bytes());
+                    record.extend(&self.slices[0][..]);
+                }
+            }
+        }
+        record
     }
 
-    pub fn u32(mut self, v: u32) -> Self {
-        self.0.extend(v.to_be_bytes());
-        self
+    /// The line that is owed for the call's record; a kind, a profile or a room that there is not makes it none.
+    pub fn line(&self) -> Result<String, String> {
+        if self.kind > 1 || self.profile > 1 || self.room > MOST || self.record().len() > MOST {
+            return Ok(UNREADABLE.into());
+        }
+        Ok((self.operation.owed)(self)?.outcome.line(self.operation))
     }
 
-    /// A value of 32 bits, two's complement.
-    pub fn i32(self, v: i32) -> Self {
-        self.u32(v as u32)
-    }
-
-    pub fn bytes(self, bytes: &[u8]) -> Self {
-        let mut longer = self.u32(bytes.len() as u32);
-        longer.0.extend(bytes);
-        longer
-    }
-
-    pub fn made(self) -> Record {
-        self.0
-    }
-}
-
-/// The arguments of a record that are still to be taken. `None` means that the record is too short,
-/// or that an argument is outside its limits.
-pub struct Arguments<'a>(&'a [u8]);
-
-impl<'a> Arguments<'a> {
-    pub fn new(after_operation: &'a [u8]) -> Self {
-        Arguments(after_operation)
-    }
-
-    fn take(&mut self, n: usize) -> Option<&'a [u8]> {
-        let (taken, left) = self.0.split_at_checked(n)?;
-        self.0 = left;
-        Some(taken)
-    }
-
-    pub fn u8(&mut self) -> Option<u8> {
-        Some(self.take(1)?[0])
-    }
-
-    pub fn u32(&mut self) -> Option<u32> {
-        Some(u32::from_be_bytes(self.take(4)?.try_into().ok()?))
-    }
-
-    pub fn i32(&mut self) -> Option<i32> {
-        Some(self.u32()? as i32)
-    }
-
-    /// A room within the limit.
-    pub fn room(&mut self) -> Option<usize> {
-        let room = self.u32()? as usize;
-        (room <= MOST).then_some(room)
-    }
-
-    pub fn bytes(&mut self) -> Option<&'a [u8]> {
-        let n = self.u32()?;
-        self.take(n as usize)
-    }
-
-    /// `None` where bytes are left: the record is too long.
-    pub fn end(&self) -> Option<()> {
-        self.0.is_empty().then_some(())
+    /// For people: what is handed over, long slices cut short.
+    pub fn described(&self) -> String {
+        let mut text = format!("  ighzamrel_{}", self.operation.name);
+        for argument in self.operation.arguments {
+            text += &match *argument {
+                Argument::Kind => format!(", kind {}", self.kind),
+                Argument::Profile => format!(", profile {}", self.profile),
+                Argument::Value => format!(", value {}", self.value),
+                Argument::Number => format!(", number {}", self.number),
+                Argument::Budget => format!(", budget {}", self.budget),
+                Argument::Room => format!(", room {}", self.room),
+                Argument::Bytes(_) | Argument::List(_) | Argument::Lengths => continue,
+            };
+        }
+        for argument in self.operation.arguments {
+            if let Some(i) = argument.slice() {
+                text += &format!("\n  {} {}", argument.word(), shown(&self.slices[i]));
+            }
+        }
+        text + "\n"
     }
 }
 
-/// Standard input for `cases`: each record after its length, then a tail that is no whole record.
-pub fn row(records: &[Record], tail: &[u8]) -> Vec<u8> {
-    let mut all = Vec::new();
-    for record in records {
-        all.extend((record.len() as u32).to_be_bytes());
-        all.extend(record);
+impl Outcome {
+    /// What `cases` prints: the answer, the values that it gives, and the bytes of an accepted call that has some.
+    pub fn line(&self, operation: &Operation) -> String {
+        let mut line = self.answer.to_string();
+        self.values.iter().flatten().for_each(|value| line += &format!(" {value}"));
+        if self.answer == 0 && operation.shows() {
+            line += &format!(" {}", hex(&self.bytes));
+        }
+        line
     }
-    all.extend(tail);
-    all
+}
+
+/// A list of thousands of empty entries is not read by anyone.
+fn shown(bytes: &[u8]) -> String {
+    const SHOWN: usize = 2000;
+    let rest = if bytes.len() > SHOWN { ".." } else { "" };
+    format!("{}{rest}", hex(&bytes[..bytes.len().min(SHOWN)]))
 }
 
 /// Lower-case, `-` for no bytes.

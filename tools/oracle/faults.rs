@@ -1,0 +1,97 @@
+//! Faults in a thin layer before the library. A comparison and a fuzz target that do not catch each are worth little.
+
+use crate::lend::PLANTED;
+use crate::operation::{library, Call, Fault, Found, Lent, Operation, Side};
+use crate::operations::OPERATIONS;
+
+const MOST: usize = usize::MAX;
+
+/// Those that any operation can have.
+static EVERYWHERE: [Fault; 9] = [
+    Fault { name: "the byte behind what is reported is changed", plant: byte_behind },
+    Fault { name: "the byte before the room is changed", plant: byte_before },
+    Fault { name: "a refusal changes the first lent byte", plant: byte_on_refusal },
+    Fault { name: "over 8 bytes written have another last one", plant: other_last_byte::<9, MOST> },
+    Fault {
+        name: "over 200 bytes written have another last one",
+        plant: other_last_byte::<201, MOST>,
+    },
+    Fault { name: "just 77 bytes written have another last one", plant: other_last_byte::<77, 77> },
+    Fault { name: "a refusal sets a place that it does not give", plant: place_on_refusal },
+    Fault { name: "a byte of an input is changed", plant: input_changed },
+    Fault { name: "the byte behind an input is read", plant: read_behind },
+];
+
+/// All of them, those that any operation can have first.
+fn all() -> Vec<(&'static Fault, Option<&'static Operation>)> {
+    let own = |&operation: &&'static Operation| {
+        operation.faults.iter().map(move |fault| (fault, Some(operation)))
+    };
+    let everywhere = EVERYWHERE.iter().map(|fault| (fault, None));
+    everywhere.chain(OPERATIONS.iter().flat_map(own)).collect()
+}
+
+/// Plants a fault for the rest of the process, and tells its name; none where there are not so many.
+pub fn plant(number: usize) -> Option<String> {
+    let &(fault, only) = all().get(number)?;
+    PLANTED.set((fault, only)).ok()?;
+    Some(format!("{}: {}", only.map_or("everywhere", |operation| operation.name), fault.name))
+}
+
+fn writes(call: &Call) -> bool {
+    call.operation.found == Found::Written
+}
+
+fn byte_behind(call: &Call, lent: &Lent) -> u32 {
+    let answer = library(call, lent);
+    if writes(call) && answer == 0 && lent.size(0) < lent.room {
+        unsafe { *lent.out.add(lent.size(0)) ^= 0x10 };
+    }
+    answer
+}
+
+fn byte_before(call: &Call, lent: &Lent) -> u32 {
+    if lent.side == Side::High {
+        unsafe { *lent.out.sub(1) = 0 };
+    }
+    library(call, lent)
+}
+
+fn byte_on_refusal(call: &Call, lent: &Lent) -> u32 {
+    let answer = library(call, lent);
+    if answer == 13 && lent.room > 0 {
+        unsafe { *lent.out = 14 };
+    }
+    answer
+}
+
+fn other_last_byte<const LEAST: usize, const MOST: usize>(call: &Call, lent: &Lent) -> u32 {
+    let answer = library(call, lent);
+    if writes(call) && answer == 0 && (LEAST..=MOST).contains(&lent.size(0)) {
+        unsafe { *lent.out.add(lent.size(0) - 1) ^= 1 };
+    }
+    answer
+}
+
+fn place_on_refusal(call: &Call, lent: &Lent) -> u32 {
+    let answer = library(call, lent);
+    if !call.operation.places.is_empty() && call.operation.given(answer) == Some(0) {
+        unsafe { *lent.place(0) = 0u32 };
+    }
+    answer
+}
+
+fn input_changed(call: &Call, lent: &Lent) -> u32 {
+    let answer = library(call, lent);
+    let (bytes, size) = lent.slices[0];
+    if answer == 0 && size > 4 {
+        unsafe { *bytes.add(4) ^= 1 };
+    }
+    answer
+}
+
+fn read_behind(call: &Call, lent: &Lent) -> u32 {
+    let (bytes, size) = lent.slices[0];
+    let behind = if size > 0 { unsafe { bytes.add(size).read_volatile() } } else { 0 };
+    library(call, lent) + u32::from(behind & 0)
+}

@@ -1,0 +1,32 @@
+//! Charstrings and lists with a few bytes changed, cut off, put in or left out.
+
+use super::case::Case;
+use crate::random::Random;
+
+/// The same with one to four hurts, mostly of the charstring.
+pub fn damaged(mut case: Case, random: &mut Random) -> Case {
+    for _ in 0..random.within(1, 4) {
+        let string = match random.within(0, 5) {
+            0 => &mut case.globals,
+            1 | 2 => &mut case.locals,
+            _ => &mut case.charstring,
+        };
+        hurt(string, random);
+    }
+    case
+}
+
+fn hurt(string: &mut Vec<u8>, random: &mut Random) {
+    let any = random.next() as u8;
+    if string.is_empty() {
+        return string.push(any);
+    }
+    let at = random.within(0, string.len() as i64 - 1) as usize;
+    match random.within(0, 9) {
+        0..=2 => string[at] ^= 1 << (any & 7),
+        3 | 4 => string[at] = any,
+        5 | 6 => string.insert(at, any),
+        7 | 8 => drop(string.remove(at)),
+        _ => string.truncate(at),
+    }
+}

@@ -1,0 +1,237 @@
+//! Flattenings at each edge of flattening: every refusal, every operator and number, and both sides of every limit.
+
+use super::case::{
+    list, Case, Given, AMPLE, FIRST, GLOBAL, L, LOCAL, NONE, PLAIN, SECOND, STRICT, THIRD,
+};
+use crate::rules::flattening::Verdict;
+
+/// All of them; the flat strings with most hints into no room.
+pub(super) fn all() -> Vec<Given> {
+    [
+        refused(),
+        bad_lists(),
+        first_bytes(),
+        numbers(),
+        depths(),
+        operands(),
+        strict_hints(),
+        plain_hints(0),
+        [1239, 1240, 33899, 33900].into_iter().flat_map(counts).collect(),
+        forty(),
+    ]
+    .concat()
+}
+
+/// What each refusal of a run comes from, on lists whose third entries call themselves.
+fn triggers() -> Vec<Vec<u8>> {
+    let mut triggers: Vec<Vec<u8>> = vec![
+        vec![0x1C, 0x00],
+        vec![0xF7],
+        vec![0xFF, 0x00, 0x00, 0x00],
+        vec![0x0C],
+        vec![0x8B, 0x8C, 0x01, 0x13],
+        vec![0x8B; 49],
+        vec![0x00],
+        vec![0x0C, 0x00],
+        vec![LOCAL],
+        vec![GLOBAL],
+        vec![0xFF, 0x00, 0x00, 0x80, 0x00, LOCAL],
+        vec![0x8B, 0x8C, 0x01, 0x13, 0x80, FIRST, 0x13, 0x80, LOCAL],
+        vec![0x8B, 0x8C, 0x01, 0x14, 0x80, FIRST, 0x14, 0x80, GLOBAL],
+        vec![0x1F, LOCAL],
+        vec![0xFF, 0xFF, 0x94, 0x00, 0x00, LOCAL],
+        vec![0x8B, GLOBAL],
+        vec![THIRD + 1, LOCAL],
+        vec![THIRD, LOCAL],
+        vec![THIRD, GLOBAL],
+        vec![0x8B; 4],
+    ];
+    triggers.last_mut().expect("there are some").push(0x0E);
+    let stem = [&[0x8B; 48][..], &[0x01]].concat();
+    triggers.push([&stem.repeat(4)[..], &[0x8B, 0x8B, 0x01]].concat());
+    triggers.push([&stem.repeat(4)[..], &[0x8B, 0x8B, 0x13]].concat());
+    triggers
+}
+
+/// Each trigger at the start, after other tokens, before others, and as an entry of each list.
+fn refused() -> Vec<Given> {
+    let path = [0x8C, 0x8D, 0x15];
+    let mut asked = Vec::new();
+    for trigger in triggers() {
+        let entries =
+            |call: u8| list(&[vec![0x8C, 0x8D, 0x15, 0x0B], trigger.clone(), vec![THIRD, call]]);
+        let (globals, locals) = (entries(GLOBAL), entries(LOCAL));
+        let strings = [
+            trigger.clone(),
+            [&path[..], &trigger].concat(),
+            [&trigger[..], &[0x0E, 0x0E]].concat(),
+            [&path[..], &[SECOND, LOCAL]].concat(),
+            [&path[..], &[SECOND, GLOBAL, 0x0E]].concat(),
+        ];
+        for string in strings {
+            let case = Case::new(&string, &globals, &locals);
+            asked.extend(case.both());
+            if let Verdict::Stopped(_, tokens) = case.verdict(PLAIN) {
+                asked.push(case.asked(PLAIN, tokens, 0));
+                asked.push(case.asked(PLAIN, tokens - 1, 0));
+            }
+        }
+    }
+    asked
+}
+
+/// 1 and 2, before everything else that is wrong.
+fn bad_lists() -> Vec<Given> {
+    let bad: [&[u8]; 7] = [
+        &[],
+        &[0x00],
+        &[0x00, 0x01],
+        &[0x00, 0x01, 0x05, 0x01, 0x01],
+        &[0x00, 0x02, 0x01, 0x01, 0x01, 0x00],
+        &[0x00, 0x02, 0x01, 0x02, 0x01, 0x02, 0x0B],
+        &[0x00, 0x02, 0x01, 0x01, 0x03, 0x02, 0x0B],
+    ];
+    let mut asked = Vec::new();
+    for list in bad {
+        for case in
+            [Case::new(&[0x00], list, L), Case::new(&[0x00], L, list), Case::new(&[], list, list)]
+        {
+            asked.extend(case.both());
+            asked.push(case.asked(PLAIN, 0, 0));
+        }
+    }
+    asked
+}
+
+/// Every operator and escaped operator with no, one and two operands before it.
+fn first_bytes() -> Vec<Given> {
+    let list = list(&[[0x8C], [0x8D]]);
+    let mut asked = Vec::new();
+    for before in [&[][..], &[FIRST], &[FIRST, SECOND]] {
+        for b in 0..=31 {
+            let string = [before, &[b, 0x22, 0x80, 0x0E]].concat();
+            asked.extend(Case::new(&string, &list, &list).both());
+        }
+    }
+    asked.extend((0..=255).map(|b| Case::new(&[0x8B, 0x0C, b, 0x0E], NONE, NONE).ample(PLAIN)));
+    asked
+}
+
+/// Integers in longer forms than the shortest, at each bound of a form, and a Fixed.
+fn numbers() -> Vec<Given> {
+    let values: [i16; 14] =
+        [-32768, -1132, -1131, -108, -107, -1, 0, 1, 107, 108, 1131, 1132, 5000, 32767];
+    let mut strings: Vec<Vec<u8>> =
+        values.iter().map(|v| [&[0x1C][..], &v.to_be_bytes(), &[0x16]].concat()).collect();
+    for b in [247u8, 250, 251, 254] {
+        strings.extend([0, 255].map(|after| vec![b, after, 0x16]));
+    }
+    strings.push(vec![0xFF, 0x00, 0x05, 0x00, 0x00, 0x16]);
+    strings.iter().map(|string| Case::new(string, NONE, NONE).ample(PLAIN)).collect()
+}
+
+/// A list of so many entries, each calling the next, the last with a path of its own.
+fn chain(entries: u8, call: u8) -> Vec<u8> {
+    let mut chain: Vec<Vec<u8>> = (1..entries).map(|i| vec![FIRST + i, call, 0x0B]).collect();
+    chain.push(vec![0x8C, 0x8D, 0x15, 0x0B]);
+    list(&chain)
+}
+
+/// The deepest call that there is, one less and one more.
+fn depths() -> Vec<Given> {
+    let mut asked = Vec::new();
+    for entries in [9, 10, 11, 62, 63, 64] {
+        let call = [FIRST, LOCAL, 0x0E];
+        asked.extend(Case::new(&call, NONE, &chain(entries, LOCAL)).both());
+        let call = [FIRST, GLOBAL, 0x0E];
+        asked.extend(Case::new(&call, &chain(entries, GLOBAL), NONE).both());
+    }
+    asked
+}
+
+/// 48 operands and 49, a call's index among them, before each kind of token.
+fn operands() -> Vec<Given> {
+    let mut asked = Vec::new();
+    for count in [47, 48] {
+        for after in [&[0x15][..], &[0x8B], &[FIRST], &[0x1C, 0x00], &[FIRST, LOCAL], &[LOCAL]] {
+            let string = [&vec![0x8B; count][..], after].concat();
+            asked.extend(Case::new(&string, NONE, L).both());
+        }
+    }
+    asked
+}
+
+/// 96 hints and 97, at a stem and at a mask.
+fn strict_hints() -> Vec<Given> {
+    let stems = [&[0x8B; 48][..], &[0x12]].concat().repeat(3);
+    let mut asked = Vec::new();
+    for last in [46, 47, 48] {
+        for after in [&[0x17][..], &[0x8B, 0x8B, 0x17], &[0x13], &[0x01, 0x8B, 0x8B, 0x13]] {
+            for mask in [0, 11, 12, 13] {
+                let operands = vec![0x8B; last];
+                let string = [&stems, &operands, after, &vec![0x80; mask]].concat();
+                asked.extend(Case::new(&string, NONE, NONE).both());
+            }
+        }
+    }
+    asked
+}
+
+/// 65535 hints and 65536, at a stem and at a mask, by entries of 1, 8, 64 and 512 full stems.
+pub(super) fn plain_hints(room: usize) -> Vec<Given> {
+    let stem = [&[0x8B; 48][..], &[0x01]].concat();
+    let eight = |entry: u8| [entry, LOCAL].repeat(8);
+    let locals = list(&[stem, eight(FIRST), eight(FIRST + 1), eight(FIRST + 2)]);
+    let times = |entry: u8, n: usize| [entry, LOCAL].repeat(n);
+    let whole =
+        [times(FIRST + 3, 5), times(FIRST + 2, 2), times(FIRST + 1, 5), times(FIRST, 2)].concat();
+    let mut asked = Vec::new();
+    for operands in [30, 31, 32] {
+        for operator in [0x01, 0x13] {
+            let head = [&whole[..], &vec![0x8B; operands], &[operator]].concat();
+            let masks = if operator == 0x13 && operands < 32 { vec![8191, 8192] } else { vec![0] };
+            for mask in masks {
+                let string = [&head[..], &vec![0x80; mask]].concat();
+                asked.push(Case::new(&string, NONE, &locals).asked(PLAIN, AMPLE, room));
+            }
+        }
+    }
+    asked
+}
+
+/// A list of so many entries, of which the first and the last are not empty, called by each bias.
+fn counts(entries: usize) -> Vec<Given> {
+    let mut members: Vec<&[u8]> = vec![&[]; entries];
+    members[0] = &[0x8C];
+    members[entries - 1] = &[0x8D];
+    let long = list(&members);
+    let mut string = Vec::new();
+    let mut asked = Vec::new();
+    for first in [-107i32, -1131, -32768] {
+        let last = first + entries as i32 - 1;
+        string.clear();
+        for index in [first, last] {
+            let index = i16::try_from(index).unwrap_or(i16::MAX);
+            string.extend([&[0x1C][..], &index.to_be_bytes(), &[LOCAL]].concat());
+        }
+        asked.push(Case::new(&string, NONE, &long).ample(PLAIN));
+        if entries < 2000 {
+            let global: Vec<u8> =
+                string.iter().map(|&b| if b == LOCAL { GLOBAL } else { b }).collect();
+            asked.push(Case::new(&global, &long, NONE).ample(STRICT));
+        }
+    }
+    asked
+}
+
+/// The forty subroutines of the mission, each calling the next twice.
+fn forty() -> Vec<Given> {
+    let mut entries: Vec<Vec<u8>> = (1..40).map(|i| [FIRST + i, LOCAL].repeat(2)).collect();
+    entries.push(vec![0x8C, 0x16]);
+    let case = Case::new(&[FIRST, LOCAL, 0x0E], NONE, &list(&entries));
+    let budgets = [0, 1, 2, 40, 1000, 1_000_000];
+    budgets
+        .into_iter()
+        .flat_map(|budget| [PLAIN, STRICT].map(|profile| case.asked(profile, budget, 64)))
+        .collect()
+}

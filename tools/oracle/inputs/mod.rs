@@ -1,0 +1,14 @@
+//! The inputs, made: numbers, INDEXes and charstrings.
+
+pub mod case;
+mod damaged;
+mod edges;
+pub mod flattening;
+pub mod index;
+mod loose;
+pub mod number;
+mod structured;
+
+pub use damaged::damaged;
+pub use loose::loose;
+pub use structured::structured;

@@ -1,0 +1,183 @@
+//! What is lent to a C function: each slice and the room stand flush against a page that nothing may touch, so that code
+//! without instrumentation faults at the first byte that it reads or writes too far; the room holds a pattern, which goes
+//! on on its other side, and so does each place. At every call it is looked at what was left.
+
+use crate::operation::{
+    library, Argument, Call, Fault, Found, Lent, Operation, Outcome, Place, Side, PLACES,
+};
+use std::borrow::Cow;
+use std::ffi::c_void;
+use std::ptr;
+use std::sync::OnceLock;
+
+/// The most bytes of a slice or a room.
+const ARENA: usize = 1 << 25;
+const PAGE: usize = 1 << 16;
+
+/// How many bytes on the side where there is no page are looked at.
+const GUARD: usize = 64;
+
+/// What a place holds before a call.
+const UNSET: u64 = 0xA55A_5AA5_C33C_3CC3;
+
+/// The row of which the pattern is a part, from another byte on at each call. No byte of it is 0.
+const ROW: usize = 256;
+
+extern "C" {
+    fn mmap(at: *mut c_void, size: usize, may: i32, how: i32, file: i32, from: i64) -> *mut c_void;
+    fn mprotect(at: *mut c_void, size: usize, may: i32) -> i32;
+}
+
+/// Memory between two pages that nothing may touch.
+struct Arena(*mut u8);
+
+// SAFETY: the memory is the arena's own.
+unsafe impl Send for Arena {}
+
+impl Arena {
+    fn new() -> Self {
+        const PRIVATE_AND_NO_FILE: i32 = 0x22;
+        const READ_AND_WRITE: i32 = 3;
+        // SAFETY: the memory is new, and what is made usable lies within it.
+        unsafe {
+            let all = mmap(ptr::null_mut(), ARENA + 2 * PAGE, 0, PRIVATE_AND_NO_FILE, -1, 0);
+            let first = all.wrapping_byte_add(PAGE);
+            assert!(all as isize != -1 && mprotect(first, ARENA, READ_AND_WRITE) == 0, "no memory");
+            Arena(first.cast())
+        }
+    }
+
+    /// The block stands until the next one of the same arena.
+    fn block(&self, size: usize, side: Side) -> *mut u8 {
+        assert!(size <= ARENA, "too long to be lent");
+        self.0.wrapping_add(if side == Side::Low { 0 } else { ARENA - size })
+    }
+}
+
+/// A fault to call in the library's stead, in one operation or in all.
+pub static PLANTED: OnceLock<(&Fault, Option<&Operation>)> = OnceLock::new();
+
+fn planted(call: &Call) -> fn(&Call, &Lent) -> u32 {
+    match PLANTED.get() {
+        Some((fault, only)) if only.is_none_or(|own| own.number == call.operation.number) => {
+            fault.plant
+        }
+        _ => library,
+    }
+}
+
+pub struct Lender {
+    arenas: [Arena; 3],
+    out: Arena,
+    row: Vec<u8>,
+    salt: usize,
+}
+
+impl Lender {
+    pub fn new() -> Self {
+        let row =
+            (0..ARENA + ROW).map(|i| (i as u8).wrapping_mul(37).wrapping_add((i >> 8) as u8) | 1);
+        let arenas = [Arena::new(), Arena::new(), Arena::new()];
+        Lender { arenas, out: Arena::new(), row: row.collect(), salt: 0 }
+    }
+
+    /// Makes a call, and looks at all that was lent.
+    pub fn perform(&mut self, call: &Call, side: Side) -> Result<Outcome, String> {
+        self.salt = (self.salt + 29) % ROW;
+        let handed = [0, 1, 2].map(|i| handed(call, i));
+        let mut places = [UNSET; PLACES];
+        let out = self.out.block(call.room + GUARD, side);
+        let before = if side == Side::Low { 0 } else { GUARD };
+        let mut lent = Lent {
+            slices: [0, 1, 2]
+                .map(|i| (self.arenas[i].block(handed[i].len(), side), handed[i].len())),
+            out: self.out.block(call.room, side),
+            room: call.room,
+            places: places.as_mut_ptr(),
+            side,
+        };
+        if handed[1] == handed[2] && self.salt % 2 == 1 {
+            // two lists may be the very same bytes
+            lent.slices[2] = lent.slices[1];
+        }
+        // SAFETY: each block lies in its arena, and nothing else refers to it.
+        let (room, slices) = unsafe {
+            ptr::copy_nonoverlapping(self.row[self.salt..].as_ptr(), out, call.room + GUARD);
+            for ((block, size), bytes) in lent.slices.iter().zip(&handed) {
+                ptr::copy_nonoverlapping(bytes.as_ptr(), *block, *size);
+            }
+            let answer = planted(call)(call, &lent);
+            let room = std::slice::from_raw_parts(out, call.room + GUARD);
+            (
+                Room { bytes: room, before, answer },
+                lent.slices.map(|(at, n)| std::slice::from_raw_parts(at, n)),
+            )
+        };
+        if slices.iter().zip(&handed).any(|(left, handed)| left[..] != handed[..]) {
+            return Err("  a byte of an input was changed\n".into());
+        }
+        let outcome = self.outcome(call, &room, &places)?;
+        let reported = if call.operation.found == Found::Written { outcome.bytes.len() } else { 0 };
+        let row = &self.row[self.salt..];
+        let behind = before + reported;
+        if room.bytes[..before] != row[..before]
+            || room.bytes[behind..] != row[behind..room.bytes.len()]
+        {
+            return Err("  a byte was changed outside of what is reported\n".into());
+        }
+        Ok(outcome)
+    }
+
+    /// The values and the bytes that the answer gives; no other place may have changed, and no bit that a type does not reach.
+    fn outcome(&self, call: &Call, room: &Room, places: &[u64; PLACES]) -> Result<Outcome, String> {
+        let operation = call.operation;
+        let answer = room.answer;
+        let Some(given) = operation.given(answer) else {
+            return Err(format!("  {answer} is none of the operation's answers\n"));
+        };
+        let mut outcome = Outcome::refused(answer);
+        for (i, &came) in places.iter().enumerate() {
+            let place = operation.places.get(i).filter(|_| given >> i & 1 == 1);
+            let reached =
+                place.map_or(
+                    0,
+                    |place| if *place == Place::Size { u64::MAX } else { u32::MAX.into() },
+                );
+            if (came ^ UNSET) & !reached != 0 {
+                return Err(format!("  answer {answer} set a place that it does not give\n"));
+            }
+            outcome.values[i] = place.map(|place| match place {
+                Place::U32 => i64::from(came as u32),
+                Place::I32 => i64::from(came as u32 as i32),
+                Place::Size => came as i64,
+            });
+        }
+        if answer == 0 {
+            let part = match operation.found {
+                Found::Nothing => Some(&[][..]),
+                Found::Written => (places[0] as usize <= call.room)
+                    .then(|| &room.bytes[room.before..room.before + places[0] as usize]),
+                Found::InSlice => call.slices[0]
+                    .get(places[0] as usize..)
+                    .and_then(|from| from.get(..places[1] as usize)),
+            };
+            outcome.bytes = part.ok_or("  more bytes are reported than there are\n")?.to_vec();
+        }
+        Ok(outcome)
+    }
+}
+
+/// The room with its guard, as it was left; where it starts; and the answer.
+struct Room<'a> {
+    bytes: &'a [u8],
+    before: usize,
+    answer: u32,
+}
+
+/// A slice as the C function takes it: lengths are words of this machine.
+fn handed<'a>(call: &'a Call, which: usize) -> Cow<'a, [u8]> {
+    if which == 0 && call.operation.arguments.contains(&Argument::Lengths) {
+        return call.lengths().into_iter().flat_map(u32::to_ne_bytes).collect();
+    }
+    Cow::Borrowed(&call.slices[which])
+}

@@ -1,0 +1,290 @@
+//! What one description of an operation holds. The list maker, the comparison, the fuzz target and the planted faults
+//! know nothing else of it. A new operation is a file in `operations/`, and its name in the list there.
+
+use crate::random::Random;
+use crate::rules::flattening::Met;
+use std::borrow::Cow;
+
+/// The most places that a C function has.
+pub const PLACES: usize = 4;
+
+pub struct Operation {
+    /// Its number in the program `cases`.
+    pub number: u8,
+    /// The C function, behind `ighzamrel_`. Those that are none are exported for the comparison by `tools/tried`.
+    pub name: &'static str,
+    pub arguments: &'static [Argument],
+    pub places: &'static [Place],
+    /// All answers, and for each the places that it gives, as bits.
+    pub answers: &'static [(u32, u8)],
+    /// Where the bytes come from that an accepted call shows.
+    pub found: Found,
+    /// What must come: the rule's word, with which the Rust must agree where it has one.
+    pub owed: fn(&Call) -> Result<Owed, String>,
+    /// Calls the C function.
+    pub invoke: fn(&Call, &Lent) -> u32,
+    /// Calls that the outcome of this one says something about.
+    pub next: for<'a> fn(&'a Call<'a>, &'a Outcome) -> Vec<Next<'a>>,
+    /// Inputs for the stored list, and how many random ones it has besides.
+    pub listed: fn() -> Vec<Call<'static>>,
+    pub sample: usize,
+    /// Inputs whose record is none: a kind, a profile or a room that there is not.
+    pub beyond: fn() -> Vec<Call<'static>>,
+    /// Inputs that are too big or too many to store.
+    pub more: fn() -> Vec<Call<'static>>,
+    pub random: fn(&mut Random) -> Call<'static>,
+    /// Faults that only this operation can have.
+    pub faults: &'static [Fault],
+}
+
+/// What a call hands over. An operation takes some of these; its `arguments` say which. Lengths are big-endian words here.
+#[derive(Clone)]
+pub struct Call<'a> {
+    pub operation: &'static Operation,
+    pub kind: u32,
+    pub value: i32,
+    pub number: u32,
+    pub profile: u32,
+    pub budget: u32,
+    pub room: usize,
+    pub slices: [Cow<'a, [u8]>; 3],
+}
+
+/// What a call gives: the answer, the values at the places that it gives, and the bytes written or found.
+#[derive(Clone, Debug, PartialEq, Eq)]
+pub struct Outcome {
+    pub answer: u32,
+    pub values: [Option<i64>; PLACES],
+    pub bytes: Vec<u8>,
+}
+
+/// Which page a block stands against: the one before it, or the one behind it.
+#[derive(Clone, Copy, PartialEq)]
+pub enum Side {
+    Low,
+    High,
+}
+
+/// What a C function is handed; a fault may touch all of it.
+pub struct Lent {
+    pub slices: [(*mut u8, usize); 3],
+    pub out: *mut u8,
+    pub room: usize,
+    pub places: *mut u64,
+    /// Whether bytes before the room may be touched, or behind it.
+    pub side: Side,
+}
+
+/// A fault in a thin layer before the library, by what it does.
+pub struct Fault {
+    pub name: &'static str,
+    pub plant: fn(&Call, &Lent) -> u32,
+}
+
+/// A description to complete: nothing is given, found or known to follow.
+pub const BARE: Operation = Operation {
+    number: 0,
+    name: "",
+    arguments: &[],
+    places: &[],
+    answers: &[],
+    found: Found::Nothing,
+    owed: |_| Err("no rule is given".into()),
+    invoke: |_, _| u32::MAX,
+    next: |_, _| Vec::new(),
+    listed: Vec::new,
+    sample: 500,
+    beyond: Vec::new,
+    more: Vec::new,
+    random: |_| Call::of(&BARE_ONE),
+    faults: &[],
+};
+static BARE_ONE: Operation = BARE;
+
+/// An argument, in a record's order; the slices by their place among them.
+#[derive(Clone, Copy, PartialEq)]
+pub enum Argument {
+    Kind,
+    Value,
+    Number,
+    Profile,
+    Budget,
+    Room,
+    Bytes(usize),
+    /// Bytes that are to be an INDEX.
+    List(usize),
+    /// Words, the first slice.
+    Lengths,
+}
+
+/// The type of a place.
+#[derive(Clone, Copy, PartialEq)]
+pub enum Place {
+    U32,
+    I32,
+    Size,
+}
+
+#[derive(Clone, Copy, PartialEq)]
+pub enum Found {
+    Nothing,
+    /// The room; the first place is the length.
+    Written,
+    /// The first slice; the first place is where, and the second the length.
+    InSlice,
+}
+
+pub struct Owed {
+    pub outcome: Outcome,
+    /// Whether the Rust had a word too.
+    pub rust: bool,
+    pub met: Option<Met>,
+}
+
+/// A call whose outcome another one fixes.
+pub struct Next<'a> {
+    pub call: Call<'a>,
+    pub must: Must<'a>,
+    pub law: &'static str,
+}
+
+pub enum Must<'a> {
+    /// What is owed for it, and no more.
+    Any,
+    GiveTheSame,
+    Refuse(u32),
+    /// An answer 0 with these bytes.
+    Write(&'a [u8]),
+    /// An answer 0 with these first values.
+    Tell(Vec<i64>),
+}
+
+impl<'a> Call<'a> {
+    pub fn of(operation: &'static Operation) -> Self {
+        let slices = [b"", b"", b""].map(|none| Cow::Borrowed(&none[..]));
+        Call { operation, kind: 0, value: 0, number: 0, profile: 0, budget: 0, room: 0, slices }
+    }
+
+    pub fn fixed(&self) -> bool {
+        self.kind != 0
+    }
+
+    pub fn strict(&self) -> bool {
+        self.profile != 0
+    }
+
+    /// The lengths that an INDEX is written from.
+    pub fn lengths(&self) -> Vec<u32> {
+        let words = self.slices[0].chunks_exact(4);
+        words.map(|word| u32::from_be_bytes([word[0], word[1], word[2], word[3]])).collect()
+    }
+
+    /// The same call, whose slices stand where this one's do.
+    pub fn again(&self) -> Call<'_> {
+        Call { slices: self.slices.each_ref().map(|slice| Cow::Borrowed(&slice[..])), ..*self }
+    }
+
+    /// The same call with a slice in the place of another.
+    pub fn with<'b>(&'b self, which: usize, slice: &'b [u8]) -> Call<'b> {
+        let mut other = self.again();
+        other.slices[which] = Cow::Borrowed(slice);
+        other
+    }
+
+    /// The same call, of its own bytes.
+    pub fn owned(&self) -> Call<'static> {
+        Call { slices: self.slices.each_ref().map(|slice| Cow::Owned(slice.to_vec())), ..*self }
+    }
+}
+
+impl Outcome {
+    pub fn refused(answer: u32) -> Self {
+        Outcome { answer, values: [None; PLACES], bytes: Vec::new() }
+    }
+
+    /// An answer with its first values.
+    pub fn told<const N: usize>(answer: u32, values: [i64; N], bytes: Vec<u8>) -> Self {
+        let mut told = Outcome { bytes, ..Outcome::refused(answer) };
+        told.values.iter_mut().zip(values).for_each(|(place, value)| *place = Some(value));
+        told
+    }
+}
+
+impl Lent {
+    pub fn place<T>(&self, which: usize) -> *mut T {
+        self.places.wrapping_add(which).cast()
+    }
+
+    pub fn size(&self, which: usize) -> usize {
+        // SAFETY: each place is a word of its own.
+        unsafe { *self.place(which) }
+    }
+}
+
+/// The library's answer.
+pub fn library(call: &Call, lent: &Lent) -> u32 {
+    (call.operation.invoke)(call, lent)
+}
+
+impl Operation {
+    pub fn shows(&self) -> bool {
+        self.found != Found::Nothing
+    }
+
+    /// The places that an answer gives; `None` where it is none of the operation's.
+    pub fn given(&self, answer: u32) -> Option<u8> {
+        self.answers.iter().find(|(own, _)| *own == answer).map(|(_, places)| *places)
+    }
+}
+
+impl Argument {
+    pub fn slice(self) -> Option<usize> {
+        match self {
+            Argument::Bytes(i) | Argument::List(i) => Some(i),
+            Argument::Lengths => Some(0),
+            _ => None,
+        }
+    }
+
+    pub fn word(self) -> &'static str {
+        match self {
+            Argument::List(_) => "list   ",
+            Argument::Lengths => "lengths",
+            _ => "bytes  ",
+        }
+    }
+}
+
+impl Owed {
+    /// The rule's word alone.
+    pub fn by_rule(outcome: Outcome) -> Self {
+        Owed { outcome, rust: false, met: None }
+    }
+
+    /// The rule's word, which the Rust's has to equal.
+    pub fn by_both<T: PartialEq + std::fmt::Debug>(
+        outcome: Outcome,
+        rule: T,
+        source: T,
+    ) -> Result<Self, String> {
+        if rule != source {
+            return Err(format!("  the rule  {rule:?}\n  the Rust  {source:?}\n"));
+        }
+        Ok(Owed { outcome, rust: true, met: None })
+    }
+}
+
+impl Must<'_> {
+    pub fn holds(&self, first: &Outcome, second: &Outcome) -> bool {
+        match self {
+            Must::Any => true,
+            Must::GiveTheSame => first == second,
+            Must::Refuse(answer) => second.answer == *answer,
+            Must::Write(bytes) => second.answer == 0 && second.bytes == *bytes,
+            Must::Tell(values) => {
+                second.answer == 0
+                    && values.iter().zip(second.values).all(|(own, came)| came == Some(*own))
+            }
+        }
+    }
+}

@@ -1,0 +1,75 @@
+//! Reading an entry of an INDEX: 6.
+
+use super::read_index;
+use crate::inputs::index::{any_bytes, any_number, listed, more, Read};
+use crate::library::ighzamrel_read_entry;
+use crate::operation::{Argument, Call, Found, Lent, Must, Next, Operation, Outcome, Owed, Place, BARE};
+use crate::random::Random;
+use crate::rules::index as rules;
+use crate::source::index as source;
+use std::borrow::Cow;
+
+pub static OPERATION: Operation = Operation {
+    number: 6,
+    name: "read_entry",
+    arguments: &[Argument::Number, Argument::List(0)],
+    places: &[Place::Size, Place::Size],
+    answers: &[(0, 0b11), (20, 0), (21, 0), (25, 0)],
+    found: Found::InSlice,
+    owed,
+    invoke,
+    next,
+    listed: || all(&OPERATION, listed()),
+    more: || all(&OPERATION, more()),
+    random: |random| any(&OPERATION, random),
+    ..BARE
+};
+
+pub fn invoke(call: &Call, lent: &Lent) -> u32 {
+    let (bytes, size) = lent.slices[0];
+    unsafe { ighzamrel_read_entry(bytes, size, call.number, lent.place(0), lent.place(1)) }
+}
+
+/// Each entry that is asked for.
+pub fn all(operation: &'static Operation, reads: Vec<Read>) -> Vec<Call<'static>> {
+    let each = |read: Read| {
+        let bytes = read.bytes;
+        read.numbers.into_iter().map(move |number| entry(operation, number, bytes.clone()))
+    };
+    reads.into_iter().flat_map(each).collect()
+}
+
+pub fn any(operation: &'static Operation, random: &mut Random) -> Call<'static> {
+    let bytes = any_bytes(random);
+    entry(operation, any_number(&bytes, random), bytes)
+}
+
+fn entry(operation: &'static Operation, number: u32, bytes: Vec<u8>) -> Call<'static> {
+    let mut call = Call { number, ..Call::of(operation) };
+    call.slices[0] = Cow::Owned(bytes);
+    call
+}
+
+pub fn owed(call: &Call) -> Result<Owed, String> {
+    let bytes = &call.slices[0];
+    let rule = rules::entry(bytes, call.number);
+    let part = rule.map(|entry| &bytes[entry.place..entry.place + entry.length]);
+    let outcome = match (rule, part) {
+        (Ok(entry), Ok(part)) => {
+            Outcome::told(0, [entry.place as i64, entry.length as i64], part.to_vec())
+        }
+        (Err(refusal), _) | (_, Err(refusal)) => Outcome::refused(refusal),
+    };
+    let source = (source::entry(bytes, call.number), source::part(bytes, call.number));
+    Owed::by_both(outcome, (rule.ok(), part.ok()), source)
+}
+
+/// An entry is refused as its INDEX is; and an INDEX that has it is read.
+fn next<'a>(call: &'a Call<'a>, outcome: &Outcome) -> Vec<Next<'a>> {
+    let whole = Call { operation: &read_index::OPERATION, ..call.again() };
+    let must = match outcome.answer {
+        0 | 25 => Must::Tell(Vec::new()),
+        refusal => Must::Refuse(refusal),
+    };
+    vec![Next { call: whole, must, law: "an entry is not refused as its INDEX is" }]
+}

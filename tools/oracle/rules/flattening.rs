@@ -1,0 +1,268 @@
+//! The rules for flattening (docs/RULES.md), as a reader that follows calls, keeps what it read as a row
+//! of items, and joins them at the end. Nothing here asks the Rust.
+
+use super::index as indexes;
+use super::number::{self as numbers, Operand, Place};
+
+/// A refusal's number.
+pub type Refusal = u32;
+
+/// What is to be flattened, and by which rules.
+pub struct Asked<'a> {
+    pub strict: bool,
+    pub budget: u32,
+    pub charstring: &'a [u8],
+    pub globals: &'a [u8],
+    pub locals: &'a [u8],
+}
+
+/// The verdict, whatever the room.
+#[derive(Clone, Debug, PartialEq, Eq)]
+pub enum Verdict {
+    Flat(Vec<u8>, u32),
+    /// A list is not well formed.
+    BadList(Refusal),
+    /// The refusal of the run, and the tokens begun.
+    Stopped(Refusal, u32),
+}
+
+impl Verdict {
+    /// The tokens that a run takes, and so the least budget with this verdict.
+    pub fn tokens(&self) -> u32 {
+        match self {
+            Verdict::Flat(_, tokens) | Verdict::Stopped(_, tokens) => *tokens,
+            Verdict::BadList(_) => 0,
+        }
+    }
+
+    /// The least room with this verdict.
+    pub fn length(&self) -> usize {
+        match self {
+            Verdict::Flat(flat, _) => flat.len(),
+            _ => 0,
+        }
+    }
+}
+
+const MOST_OPERANDS: usize = 48;
+
+/// An item of the flat string, and the token that it came from.
+struct Item {
+    token: u32,
+    bytes: Vec<u8>,
+}
+
+/// A subroutine list and how many entries it has.
+#[derive(Clone, Copy)]
+struct List<'a> {
+    bytes: &'a [u8],
+    count: u32,
+}
+
+/// Both lists, well formed.
+#[derive(Clone, Copy)]
+pub struct Lists<'a> {
+    globals: List<'a>,
+    locals: List<'a>,
+}
+
+/// What a run met: calls that it entered, those of them by a Fixed, and of these the nearly whole; masks; the depth.
+#[derive(Clone, Copy, Debug, Default)]
+pub struct Met {
+    pub calls: u64,
+    pub fixed: u64,
+    pub nearly: u64,
+    pub masks: u64,
+    pub deepest: u32,
+}
+
+/// How a string ended.
+#[derive(PartialEq)]
+enum Ending {
+    Returned,
+    Everything,
+}
+
+struct Run<'a> {
+    strict: bool,
+    budget: u32,
+    lists: Lists<'a>,
+    tokens: u32,
+    /// The operands, each with the token that it came from.
+    stack: Vec<(Operand, u32)>,
+    flat: Vec<Item>,
+    hints: usize,
+    mask_length: usize,
+    met: Met,
+}
+
+/// 1, 2, then the run's first refusal.
+pub fn flattened(asked: &Asked) -> Verdict {
+    let counts = [asked.globals, asked.locals].map(|list| indexes::formed(list).ok());
+    match Lists::known(asked.globals, asked.locals, counts) {
+        Ok(lists) => lists.flattened(asked.charstring, asked.strict, asked.budget).0,
+        Err(refusal) => Verdict::BadList(refusal),
+    }
+}
+
+impl<'a> Lists<'a> {
+    /// 1, then 2, by the counts of the lists that are well formed.
+    pub fn known(
+        globals: &'a [u8],
+        locals: &'a [u8],
+        counts: [Option<u32>; 2],
+    ) -> Result<Self, Refusal> {
+        let [global, local] = counts;
+        Ok(Lists {
+            globals: List { bytes: globals, count: global.ok_or(1u32)? },
+            locals: List { bytes: locals, count: local.ok_or(2u32)? },
+        })
+    }
+
+    /// The run's first refusal, or the flat string; and what the run met.
+    pub fn flattened(self, charstring: &'a [u8], strict: bool, budget: u32) -> (Verdict, Met) {
+        let mut run = Run {
+            strict,
+            budget,
+            lists: self,
+            tokens: 0,
+            stack: Vec::new(),
+            flat: Vec::new(),
+            hints: 0,
+            mask_length: 0,
+            met: Met::default(),
+        };
+        let verdict = match run.string(charstring, 1) {
+            Ok(_) => {
+                Verdict::Flat(run.flat.into_iter().flat_map(|i| i.bytes).collect(), run.tokens)
+            }
+            Err(refusal) => Verdict::Stopped(refusal, run.tokens),
+        };
+        (verdict, run.met)
+    }
+}
+
+impl Met {
+    fn call(&mut self, operand: Operand, depth: u32) {
+        self.calls += 1;
+        self.deepest = self.deepest.max(depth);
+        if let Operand::Fixed(n) = operand {
+            self.fixed += 1;
+            self.nearly += u64::from(n % 65536 != 0);
+        }
+    }
+}
+
+impl<'a> Run<'a> {
+    /// Runs a string to its end, at a depth.
+    fn string(&mut self, bytes: &'a [u8], depth: u32) -> Result<Ending, Refusal> {
+        let mut left = bytes;
+        while let Some(&first) = left.first() {
+            if self.tokens == self.budget {
+                return Err(3);
+            }
+            self.tokens += 1;
+            match first {
+                28 | 32..=255 => left = self.number(left)?,
+                12 => left = self.escaped(&left[1..])?,
+                19 | 20 => left = self.mask(first, &left[1..])?,
+                10 | 29 => {
+                    left = &left[1..];
+                    if self.call(first == 29, depth)? == Ending::Everything {
+                        return Ok(Ending::Everything);
+                    }
+                }
+                11 => return Ok(Ending::Returned),
+                14 => return self.end_char(),
+                _ => {
+                    left = &left[1..];
+                    self.operator(first)?;
+                }
+            }
+        }
+        Ok(Ending::Returned)
+    }
+
+    fn keep(&mut self, bytes: Vec<u8>) {
+        self.flat.push(Item { token: self.tokens, bytes });
+    }
+
+    /// 4, then 5. What follows the number comes back, here and below.
+    fn number(&mut self, from: &'a [u8]) -> Result<&'a [u8], Refusal> {
+        let (operand, width) = numbers::read(Place::Charstring, from)?;
+        if self.stack.len() == MOST_OPERANDS {
+            return Err(5);
+        }
+        self.stack.push((operand, self.tokens));
+        self.keep(numbers::written(Place::Charstring, operand)?);
+        Ok(&from[width..])
+    }
+
+    /// The operators of one byte that neither call, end nor have a mask.
+    fn operator(&mut self, b: u8) -> Result<(), Refusal> {
+        match b {
+            1 | 3 | 18 | 23 => self.count_hints()?,
+            4..=8 | 21 | 22 | 24..=27 | 30 | 31 => self.stack.clear(),
+            _ => return Err(6),
+        }
+        self.keep(vec![b]);
+        Ok(())
+    }
+
+    fn escaped(&mut self, from: &'a [u8]) -> Result<&'a [u8], Refusal> {
+        let (&b, after) = from.split_first().ok_or(4u32)?;
+        if !(34..=37).contains(&b) {
+            return Err(6);
+        }
+        self.stack.clear();
+        self.keep(vec![12, b]);
+        Ok(after)
+    }
+
+    fn count_hints(&mut self) -> Result<(), Refusal> {
+        let most = if self.strict { 96 } else { 65535 };
+        self.hints += self.stack.len() / 2;
+        if self.hints > most {
+            return Err(11);
+        }
+        self.stack.clear();
+        Ok(())
+    }
+
+    /// 11, then 4.
+    fn mask(&mut self, b: u8, from: &'a [u8]) -> Result<&'a [u8], Refusal> {
+        if self.mask_length == 0 {
+            self.count_hints()?;
+            self.mask_length = self.hints.div_ceil(8);
+        }
+        let (mask, after) = from.split_at_checked(self.mask_length).ok_or(4u32)?;
+        self.keep([&[b], mask].concat());
+        self.met.masks += 1;
+        Ok(after)
+    }
+
+    /// 7, 9, 10, 8, and then what the entry gives.
+    fn call(&mut self, global: bool, depth: u32) -> Result<Ending, Refusal> {
+        let list = if global { self.lists.globals } else { self.lists.locals };
+        let deepest = if self.strict { 11 } else { 64 };
+        let (operand, token) = self.stack.pop().ok_or(7u32)?;
+        let callee = numbers::callee(operand, self.strict, list.count)?;
+        if depth == deepest {
+            return Err(10);
+        }
+        if self.flat.pop().is_none_or(|last| last.token != token) {
+            return Err(8);
+        }
+        self.met.call(operand, depth + 1);
+        let entry = indexes::entry(list.bytes, callee).expect("the list is well formed");
+        self.string(&list.bytes[entry.place..entry.place + entry.length], depth + 1)
+    }
+
+    fn end_char(&mut self) -> Result<Ending, Refusal> {
+        if self.stack.len() >= 4 {
+            return Err(12);
+        }
+        self.keep(vec![14]);
+        Ok(Ending::Everything)
+    }
+}

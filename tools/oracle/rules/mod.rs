@@ -1,0 +1,5 @@
+//! What docs/RULES.md says, once more in plain whole numbers. Nothing here asks the Rust.
+
+pub mod flattening;
+pub mod index;
+pub mod number;

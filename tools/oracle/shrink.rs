@@ -1,0 +1,132 @@
+//! A smaller input on which the sides still differ, and its description.
+
+use crate::compare::{Comparison, Difference};
+use crate::inputs::case::list;
+use crate::operation::{Argument, Call};
+use crate::rules::index as indexes;
+use std::borrow::Cow;
+
+/// How many smaller inputs are tried, and the budget beyond which no run of theirs is followed.
+const TRIES: u32 = 20_000;
+const MOST_BUDGET: u32 = 1_100_000;
+
+struct Shrinking<'a> {
+    comparison: &'a mut Comparison,
+    tries: u32,
+    smallest: Difference,
+}
+
+/// The description of a difference, on the smallest input that was found.
+pub fn described(comparison: &mut Comparison, found: Difference) -> String {
+    let lengths = |call: &Call| call.slices.each_ref().map(|slice| slice.len());
+    let before = lengths(&found.call);
+    let mut shrinking = Shrinking { comparison, tries: TRIES, smallest: found };
+    let budget = shrinking.smallest.call.budget.min(MOST_BUDGET);
+    let bounded = Call { budget, ..shrinking.smallest.call.clone() };
+    if shrinking.differs(bounded) {
+        while shrinking.pass() {}
+    }
+    let Difference { call, why } = shrinking.smallest;
+    let after = lengths(&call);
+    format!(
+        "{}{why}  found with slices of {before:?} bytes, and cut to {after:?}\n",
+        call.described()
+    )
+}
+
+impl Shrinking<'_> {
+    /// Takes the input if the sides differ on it too.
+    fn differs(&mut self, call: Call<'static>) -> bool {
+        if self.tries == 0 {
+            return false;
+        }
+        self.tries -= 1;
+        match self.comparison.one(&call) {
+            Ok(_) => false,
+            Err(smaller) => {
+                self.smallest = smaller;
+                true
+            }
+        }
+    }
+
+    fn with(&mut self, which: usize, slice: Vec<u8>) -> bool {
+        let mut call = self.smallest.call.clone();
+        call.slices[which] = Cow::Owned(slice);
+        self.differs(call)
+    }
+
+    /// Whether anything could be left out.
+    fn pass(&mut self) -> bool {
+        let mut smaller = false;
+        for argument in self.smallest.call.operation.arguments {
+            smaller |= match *argument {
+                Argument::Bytes(i) => self.drop_bytes(i, 1),
+                Argument::Lengths => self.drop_bytes(0, 4),
+                Argument::List(i) => match entries(&self.smallest.call.slices[i]) {
+                    Some(entries) => self.drop_from_entries(i, entries),
+                    None => self.drop_bytes(i, 1),
+                },
+                _ => false,
+            };
+        }
+        smaller
+    }
+
+    /// Leaves out runs of bytes, long ones first.
+    fn drop_bytes(&mut self, which: usize, unit: usize) -> bool {
+        let mut smaller = false;
+        let mut width = self.smallest.call.slices[which].len() / unit * unit;
+        while width > 0 {
+            let mut at = 0;
+            while at + width <= self.smallest.call.slices[which].len() {
+                let mut slice = self.smallest.call.slices[which].to_vec();
+                slice.drain(at..at + width);
+                if self.with(which, slice) {
+                    smaller = true;
+                } else {
+                    at += unit;
+                }
+            }
+            width = width / 2 / unit * unit;
+        }
+        smaller
+    }
+
+    /// Leaves out the last entries, and bytes of those that have some.
+    fn drop_from_entries(&mut self, which: usize, mut entries: Vec<Vec<u8>>) -> bool {
+        let mut smaller = false;
+        while let Some(fewer) = entries.len().checked_sub(1) {
+            if !self.with(which, list(&entries[..fewer])) {
+                break;
+            }
+            entries.truncate(fewer);
+            smaller = true;
+        }
+        for i in 0..entries.len() {
+            let mut at = 0;
+            while at < entries[i].len() {
+                let mut other = entries.clone();
+                other[i].remove(at);
+                if self.with(which, list(&other)) {
+                    entries = other;
+                    smaller = true;
+                } else {
+                    at += 1;
+                }
+            }
+        }
+        smaller
+    }
+}
+
+/// The entries of a well-formed list.
+fn entries(bytes: &[u8]) -> Option<Vec<Vec<u8>>> {
+    let count = indexes::formed(bytes).ok()?;
+    (0..count)
+        .map(|i| {
+            let entry = indexes::entry(bytes, i).ok()?;
+            Some(bytes[entry.place..entry.place + entry.length].to_vec())
+        })
+        .collect()
+}

@@ -1,0 +1,105 @@
+//! How often each operation gave each answer, and what the accepted charstrings had in them.
+
+use crate::operation::{Call, Outcome, Owed};
+use crate::operations::OPERATIONS;
+use std::collections::BTreeMap;
+
+#[derive(Default)]
+pub struct Tally {
+    /// First calls and all calls, by operation and answer.
+    cases: Counts,
+    calls: Counts,
+    /// Calls that the Rust had a word about.
+    rust: u64,
+    /// Accepted charstrings with each of these in them.
+    called: u64,
+    fixed: u64,
+    nearly: u64,
+    masked: u64,
+    /// Calls that those followed, and how deep.
+    followed: u64,
+    deepest: u32,
+}
+
+type Counts = BTreeMap<(u8, u32), u64>;
+
+impl Tally {
+    pub fn case(&mut self, call: &Call, outcome: &Outcome, owed: &Owed) {
+        *self.cases.entry((call.operation.number, outcome.answer)).or_default() += 1;
+        self.call(call, outcome, owed);
+        if let (0 | 13, Some(met)) = (outcome.answer, owed.met) {
+            self.called += u64::from(met.calls > 0);
+            self.fixed += u64::from(met.fixed > 0);
+            self.nearly += u64::from(met.nearly > 0);
+            self.masked += u64::from(met.masks > 0);
+            self.followed += met.calls;
+            self.deepest = self.deepest.max(met.deepest);
+        }
+    }
+
+    pub fn call(&mut self, call: &Call, outcome: &Outcome, owed: &Owed) {
+        *self.calls.entry((call.operation.number, outcome.answer)).or_default() += 1;
+        self.rust += u64::from(owed.rust);
+    }
+
+    pub fn add(&mut self, other: &Tally) {
+        for (ours, theirs) in [(&mut self.cases, &other.cases), (&mut self.calls, &other.calls)] {
+            theirs.iter().for_each(|(key, n)| *ours.entry(*key).or_default() += n);
+        }
+        self.rust += other.rust;
+        self.called += other.called;
+        self.fixed += other.fixed;
+        self.nearly += other.nearly;
+        self.masked += other.masked;
+        self.followed += other.followed;
+        self.deepest = self.deepest.max(other.deepest);
+    }
+
+    pub fn report(&self, name: &str) {
+        let (cases, calls) = (self.cases.values().sum::<u64>(), self.calls.values().sum::<u64>());
+        println!("{name}: {cases} inputs in {calls} calls, no difference");
+        for operation in OPERATIONS {
+            let row: String = (operation.answers.iter())
+                .filter_map(|&(answer, _)| {
+                    let n = self.calls.get(&(operation.number, answer))?;
+                    Some(format!("  {answer}: {n}"))
+                })
+                .collect();
+            if !row.is_empty() {
+                println!("  {}, calls by answer:{row}", operation.name);
+            }
+        }
+        if self.called > 0 {
+            println!(
+                "  charstrings with a flat string: {} with calls ({} calls, down to depth {}), {} with Fixed \
+                 indexes, {} with nearly whole ones, {} with masks",
+                self.called, self.followed, self.deepest, self.fixed, self.nearly, self.masked
+            );
+        }
+        println!(
+            "  {} calls also held against the Rust; {} by the rule alone",
+            self.rust,
+            calls - self.rust
+        );
+    }
+
+    /// The answers that an operation can give and did not, so often at least, to a first call.
+    pub fn lacks(&self, least: u64) -> Vec<String> {
+        let mut lacks = Vec::new();
+        for operation in OPERATIONS {
+            for &(answer, _) in operation.answers {
+                let came = self.cases.get(&(operation.number, answer)).copied().unwrap_or(0);
+                if came < least {
+                    let name = operation.name;
+                    lacks.push(format!("{name} answered {answer} {came} times, not {least}"));
+                }
+            }
+        }
+        if [self.called, self.masked, self.fixed, self.nearly].contains(&0) {
+            lacks.push(
+                "no flat string had a call, a mask, a Fixed index, or a nearly whole one".into(),
+            );
+        }
+        lacks
+    }
+}
