@@ -30,28 +30,28 @@
 extern "C" {
 #endif
 
-/* What a function answers. */
+/* What a function answers. The refusals are made from refusals.txt, by tools/refusals --write. */
 enum ighzamrel_answer {
     IGHZAMREL_ACCEPTED = 0,
-    IGHZAMREL_BAD_GLOBALS = 1,        /* the global list is not well formed */
-    IGHZAMREL_BAD_LOCALS = 2,         /* the local list is not well formed */
-    IGHZAMREL_BUDGET_SPENT = 3,       /* a token remains, and the budget is used up */
-    IGHZAMREL_BYTES_LACKING = 4,      /* a number, an escape or a mask lacks bytes */
-    IGHZAMREL_TOO_MANY_OPERANDS = 5,  /* a 49th operand */
-    IGHZAMREL_UNKNOWN = 6,            /* a byte that starts no number; an operator that is not supported */
-    IGHZAMREL_NO_INDEX = 7,           /* a call with an empty stack, or an index that is not whole */
-    IGHZAMREL_INDEX_NOT_LAST = 8,     /* a call whose index is not the last item of the flat string */
-    IGHZAMREL_NO_ENTRY = 9,           /* a call of an entry that is not there */
-    IGHZAMREL_TOO_DEEP = 10,          /* calls nest too deep: over 64 strings in plain, over 11 in strict */
-    IGHZAMREL_TOO_MANY_HINTS = 11,    /* over 65535 hints in plain, over 96 in strict */
-    IGHZAMREL_COMPOSITE = 12,         /* endchar with four or more operands */
-    IGHZAMREL_SHORT = 13,             /* the result is longer than the room */
-    IGHZAMREL_OUTSIDE_16_BITS = 17,   /* writing: a charstring integer outside 16 bits */
-    IGHZAMREL_INDEX_LACKING = 20,     /* bytes of an INDEX are lacking */
-    IGHZAMREL_OFFSET_SIZE = 21,       /* the offset size is not 1 to 4 */
-    IGHZAMREL_TOO_MANY_ELEMENTS = 22, /* writing: over 65535 elements */
-    IGHZAMREL_TOO_LONG = 23,          /* writing: the last offset is over 4294967295 */
-    IGHZAMREL_LENGTHS_MISMATCH = 24,  /* writing: the lengths do not add up to the data */
+    IGHZAMREL_BAD_GLOBALS = 1,        /* the list of global subroutines is not well formed */
+    IGHZAMREL_BAD_LOCALS = 2,         /* the list of local subroutines is not well formed */
+    IGHZAMREL_BUDGET_SPENT = 3,       /* the budget is spent */
+    IGHZAMREL_BYTES_LACKING = 4,      /* a number, an operator or a mask lacks bytes */
+    IGHZAMREL_TOO_MANY_OPERANDS = 5,  /* more than 48 operands wait */
+    IGHZAMREL_UNKNOWN = 6,            /* a byte starts no number, or an operator is not supported */
+    IGHZAMREL_NO_INDEX = 7,           /* a call has no index, or one that is not whole */
+    IGHZAMREL_INDEX_NOT_LAST = 8,     /* a call's index does not stand last in the flat string */
+    IGHZAMREL_NO_ENTRY = 9,           /* a call names a subroutine that is not there */
+    IGHZAMREL_TOO_DEEP = 10,          /* calls nest over 64 strings deep in plain, over 11 in strict */
+    IGHZAMREL_TOO_MANY_HINTS = 11,    /* there are over 65535 hints in plain, over 96 in strict */
+    IGHZAMREL_COMPOSITE = 12,         /* endchar has four operands or more, for a glyph made of two others */
+    IGHZAMREL_SHORT = 13,             /* the result is longer than the room for it */
+    IGHZAMREL_OUTSIDE_16_BITS = 17,   /* an integer to be written into a charstring is outside 16 bits */
+    IGHZAMREL_INDEX_LACKING = 20,     /* an INDEX lacks bytes */
+    IGHZAMREL_OFFSET_SIZE = 21,       /* the offset size of an INDEX is not 1 to 4 */
+    IGHZAMREL_TOO_MANY_ELEMENTS = 22, /* an INDEX to be written has over 65535 elements */
+    IGHZAMREL_TOO_LONG = 23,          /* an INDEX to be written has a last offset over 4294967295 */
+    IGHZAMREL_LENGTHS_MISMATCH = 24,  /* the lengths of an INDEX to be written do not add up to its data */
     IGHZAMREL_ENTRY_ABSENT = 25       /* the INDEX has no such entry */
 };
 

@@ -42,13 +42,7 @@ pub fn flatten(
     if answer == 0 {
         return Ok(Flat { length, tokens });
     }
-    let refusal = Refusal::told(answer);
-    let ran = !matches!(refusal, Refusal::BadGlobals | Refusal::BadLocals);
-    Err(Refused {
-        refusal,
-        needed: (refusal == Refusal::Short).then_some(length),
-        tokens: ran.then_some(tokens),
-    })
+    Err(Refusal::told(answer).with(length, Some(tokens)))
 }
 
 /// The flat string of a charstring, in bytes of its own, where it has at most `room`.

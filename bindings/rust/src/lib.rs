@@ -19,7 +19,7 @@
 //!
 //! let refused = flatten_to_vec(&charstring, EMPTY_INDEX, EMPTY_INDEX, Profile::Plain, budget, room).unwrap_err();
 //! assert_eq!(refused.refusal, Refusal::NoEntry);
-//! assert_eq!(refused.to_string(), "refusal 9: a call of a subroutine that is not there (after 2 tokens)");
+//! assert_eq!(refused.to_string(), "refusal 9: a call names a subroutine that is not there (after 2 tokens)");
 //! # Ok::<(), ighzamrel::Refused>(())
 //! ```
 //!

@@ -3,110 +3,76 @@
 use std::error::Error;
 use std::fmt;
 
-/// Why an input was refused. The names and numbers are those of `include/ighzamrel.h`.
-///
-/// Its text, by `Display`, is for a person: `refusal 9: a call of a subroutine that is not there`.
-#[derive(Clone, Copy, Debug, PartialEq, Eq, Hash, PartialOrd, Ord)]
-#[non_exhaustive]
-#[repr(u32)]
-pub enum Refusal {
-    /// 1: the global list is not well formed.
-    BadGlobals = 1,
-    /// 2: the local list is not well formed.
-    BadLocals = 2,
-    /// 3: a token remains, and the budget is used up.
-    BudgetSpent = 3,
-    /// 4: a number, an escape or a mask lacks bytes.
-    BytesLacking = 4,
-    /// 5: a 49th operand.
-    TooManyOperands = 5,
-    /// 6: a byte that starts no number, or an operator that is not supported.
-    Unknown = 6,
-    /// 7: a call with an empty stack, or an index that is not whole.
-    NoIndex = 7,
-    /// 8: a call whose index is not the last item of the flat string.
-    IndexNotLast = 8,
-    /// 9: a call of an entry that is not there.
-    NoEntry = 9,
-    /// 10: calls nest too deep, over 64 strings in plain and over 11 in strict.
-    TooDeep = 10,
-    /// 11: over 65,535 hints in plain, over 96 in strict.
-    TooManyHints = 11,
-    /// 12: `endchar` with four or more operands, which is a glyph made of two others.
-    Composite = 12,
-    /// 13: the result is longer than the room.
-    Short = 13,
-    /// 17: an integer outside 16 bits, written into a charstring.
-    Outside16Bits = 17,
-    /// 20: bytes of an INDEX are lacking.
-    IndexLacking = 20,
-    /// 21: an INDEX's offset size is not 1 to 4.
-    OffsetSize = 21,
-    /// 22: an INDEX of over 65,535 elements, to be written.
-    TooManyElements = 22,
-    /// 23: an INDEX whose last offset would be over 4294967295, to be written.
-    TooLong = 23,
-    /// 24: lengths that do not add up to the data, to be written.
-    LengthsMismatch = 24,
-    /// 25: the INDEX has no such entry.
-    EntryAbsent = 25,
+/// What may come with a refusal.
+#[derive(Clone, Copy, PartialEq, Eq)]
+enum Value {
+    Length,
+    Tokens,
+}
+
+/// The enum of refusals: number, name, what comes with it, and its text.
+macro_rules! refusals {
+    ($($number:literal $name:ident [$($value:ident)*] $text:literal)*) => {
+        /// Why an input was refused. The names and numbers are those of `include/ighzamrel.h`.
+        ///
+        /// Its text, by `Display`, is its number and a sentence for a person, as [the first example](crate) shows.
+        #[derive(Clone, Copy, Debug, PartialEq, Eq, Hash, PartialOrd, Ord)]
+        #[non_exhaustive]
+        #[repr(u32)]
+        pub enum Refusal {
+            $(
+                #[doc = concat!($number, ": ", $text, ".")]
+                $name = $number,
+            )*
+        }
+
+        impl Refusal {
+            /// Every refusal, by its number.
+            pub const ALL: [Refusal; [$($number),*].len()] = [$(Refusal::$name),*];
+
+            const fn text(self) -> &'static str {
+                match self {
+                    $(Refusal::$name => $text,)*
+                }
+            }
+
+            const fn values(self) -> &'static [Value] {
+                match self {
+                    $(Refusal::$name => &[$(Value::$value),*],)*
+                }
+            }
+        }
+    };
+}
+
+// The list is made from refusals.txt, by `tools/refusals --write`.
+refusals! {
+    1 BadGlobals [] "the list of global subroutines is not well formed"
+    2 BadLocals [] "the list of local subroutines is not well formed"
+    3 BudgetSpent [Tokens] "the budget is spent"
+    4 BytesLacking [Tokens] "a number, an operator or a mask lacks bytes"
+    5 TooManyOperands [Tokens] "more than 48 operands wait"
+    6 Unknown [Tokens] "a byte starts no number, or an operator is not supported"
+    7 NoIndex [Tokens] "a call has no index, or one that is not whole"
+    8 IndexNotLast [Tokens] "a call's index does not stand last in the flat string"
+    9 NoEntry [Tokens] "a call names a subroutine that is not there"
+    10 TooDeep [Tokens] "calls nest over 64 strings deep in plain, over 11 in strict"
+    11 TooManyHints [Tokens] "there are over 65535 hints in plain, over 96 in strict"
+    12 Composite [Tokens] "endchar has four operands or more, for a glyph made of two others"
+    13 Short [Length Tokens] "the result is longer than the room for it"
+    17 Outside16Bits [] "an integer to be written into a charstring is outside 16 bits"
+    20 IndexLacking [] "an INDEX lacks bytes"
+    21 OffsetSize [] "the offset size of an INDEX is not 1 to 4"
+    22 TooManyElements [] "an INDEX to be written has over 65535 elements"
+    23 TooLong [] "an INDEX to be written has a last offset over 4294967295"
+    24 LengthsMismatch [] "the lengths of an INDEX to be written do not add up to its data"
+    25 EntryAbsent [] "the INDEX has no such entry"
 }
 
 impl Refusal {
-    /// Every refusal, by its number.
-    pub const ALL: [Refusal; 20] = [
-        Refusal::BadGlobals,
-        Refusal::BadLocals,
-        Refusal::BudgetSpent,
-        Refusal::BytesLacking,
-        Refusal::TooManyOperands,
-        Refusal::Unknown,
-        Refusal::NoIndex,
-        Refusal::IndexNotLast,
-        Refusal::NoEntry,
-        Refusal::TooDeep,
-        Refusal::TooManyHints,
-        Refusal::Composite,
-        Refusal::Short,
-        Refusal::Outside16Bits,
-        Refusal::IndexLacking,
-        Refusal::OffsetSize,
-        Refusal::TooManyElements,
-        Refusal::TooLong,
-        Refusal::LengthsMismatch,
-        Refusal::EntryAbsent,
-    ];
-
     /// The number of the refusal.
     pub const fn number(self) -> u32 {
         self as u32
-    }
-
-    const fn text(self) -> &'static str {
-        match self {
-            Refusal::BadGlobals => "the font's list of global subroutines is damaged",
-            Refusal::BadLocals => "the font's list of local subroutines is damaged",
-            Refusal::BudgetSpent => "the charstring takes more tokens than its budget",
-            Refusal::BytesLacking => "the bytes end inside a number, an operator or a mask",
-            Refusal::TooManyOperands => "more than 48 operands",
-            Refusal::Unknown => {
-                "a byte that starts no number, or an operator that is not supported"
-            }
-            Refusal::NoIndex => "a call without an index, or with one that is no whole number",
-            Refusal::IndexNotLast => "a call whose index does not stand right before it",
-            Refusal::NoEntry => "a call of a subroutine that is not there",
-            Refusal::TooDeep => "calls nest too deep",
-            Refusal::TooManyHints => "too many hints",
-            Refusal::Composite => "a glyph made of two others, which is not supported",
-            Refusal::Short => "the result is longer than the room for it",
-            Refusal::Outside16Bits => "a charstring holds no integer outside -32768 to 32767",
-            Refusal::IndexLacking => "the bytes end inside an INDEX",
-            Refusal::OffsetSize => "an INDEX whose offset size is not 1 to 4",
-            Refusal::TooManyElements => "an INDEX holds no more than 65535 elements",
-            Refusal::TooLong => "the elements are too long for an INDEX",
-            Refusal::LengthsMismatch => "the lengths do not add up to the data",
-            Refusal::EntryAbsent => "the INDEX has no such entry",
-        }
     }
 
     /// The refusal that the library answered with.
@@ -114,6 +80,16 @@ impl Refusal {
         Refusal::try_from(answer).unwrap_or_else(|unknown| {
             panic!("libighzamrel.a is of another version than this crate: {unknown}")
         })
+    }
+
+    /// The refusal, with those of the values that come with it; `tokens` is None where the function runs none.
+    pub(crate) fn with(self, length: usize, tokens: Option<u32>) -> Refused {
+        let comes = |value| self.values().contains(&value);
+        Refused {
+            refusal: self,
+            needed: comes(Value::Length).then_some(length),
+            tokens: tokens.filter(|_| comes(Value::Tokens)),
+        }
     }
 }
 
@@ -199,9 +175,5 @@ pub(crate) fn told<T>(answer: u32, values: T) -> Result<T, Refusal> {
 
 /// The length that was written, or the refusal with the length that 13 gives.
 pub(crate) fn written(answer: u32, length: usize) -> Result<usize, Refused> {
-    told(answer, length).map_err(|refusal| Refused {
-        refusal,
-        needed: (refusal == Refusal::Short).then_some(length),
-        tokens: None,
-    })
+    told(answer, length).map_err(|refusal| refusal.with(length, None))
 }

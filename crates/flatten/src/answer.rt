@@ -53,8 +53,8 @@ fn tell_flattened(flattened: Flattened, room: &[u8]) {
     count(flattened.number() as u64);
     match flattened {
         Flattened::Accepted(n, tokens) => tell_accepted(n, tokens, room),
-        Flattened::BadGlobals => say(b": the global list is not well formed\n"),
-        Flattened::BadLocals => say(b": the local list is not well formed\n"),
+        Flattened::BadGlobals => say(b": the list of global subroutines is not well formed\n"),
+        Flattened::BadLocals => say(b": the list of local subroutines is not well formed\n"),
         Flattened::Refused(refusal, tokens) => tell_refusal(refusal, tokens),
         Flattened::NoRoom(n, tokens) => tell_short(n, tokens),
     }
@@ -74,46 +74,38 @@ fn tell_accepted(n: usize, tokens: u32, room: &[u8]) {
 fn tell_short(n: usize, tokens: u32) {
     say_value(n as u64);
     say_value(tokens as u64);
-    say(b": the flat string has ");
+    say(b": the result is longer than the room for it: it has ");
     count(n as u64);
-    say(b" bytes, more than the room of 1048576\n");
+    say(b" bytes, and the room 1048576\n");
 }
 
-// The tokens, and a sentence with them in it.
+// The tokens, and a sentence that ends in them.
 fn tell_refusal(refusal: Refusal, tokens: u32) {
     say_value(tokens as u64);
-    say(b": ");
     match refusal {
-        Refusal::BudgetSpent => explain(b"the budget is spent after token ", tokens, b""),
-        Refusal::BytesLacking => explain(b"token ", tokens, b" lacks bytes"),
-        Refusal::TooManyOperands => explain(b"token ", tokens, b" is one operand too many"),
-        Refusal::UnknownOperator => explain(b"token ", tokens, b" is no operator that is taken"),
-        Refusal::NoIndex => explain(b"the call at token ", tokens, b" has no whole index"),
-        Refusal::IndexNotLast => tell_index(tokens),
-        Refusal::NoEntry => explain(b"the entry that token ", tokens, b" calls is not there"),
-        Refusal::TooDeep => explain(b"the call at token ", tokens, b" nests too deep"),
-        Refusal::TooManyHints => explain(b"token ", tokens, b" makes too many hints"),
-        Refusal::Composite => tell_composite(tokens),
+        Refusal::BudgetSpent => say(b": the budget is spent after token "),
+        Refusal::BytesLacking => say(b": a number, an operator or a mask lacks bytes, at token "),
+        Refusal::TooManyOperands => say(b": more than 48 operands wait, at token "),
+        Refusal::UnknownOperator => say(
+            b": a byte starts no number, or an operator is not supported, at token ",
+        ),
+        Refusal::NoIndex => say(b": a call has no index, or one that is not whole, at token "),
+        Refusal::IndexNotLast => say(
+            b": a call's index does not stand last in the flat string, at token ",
+        ),
+        Refusal::NoEntry => say(b": a call names a subroutine that is not there, at token "),
+        Refusal::TooDeep => say(
+            b": calls nest over 64 strings deep in plain, over 11 in strict, at token ",
+        ),
+        Refusal::TooManyHints => say(
+            b": there are over 65535 hints in plain, over 96 in strict, at token ",
+        ),
+        Refusal::Composite => say(
+            b": endchar has four operands or more, for a glyph made of two others, at token ",
+        ),
     }
-    say(b"\n");
-}
-
-fn tell_index(tokens: u32) {
-    explain(
-        b"the index of the call at token ",
-        tokens,
-        b" does not stand last in the flat string",
-    );
-}
-
-fn tell_composite(tokens: u32) {
-    explain(b"token ", tokens, b" is an endchar that makes a composite");
-}
-
-fn explain(before: &[u8], tokens: u32, after: &[u8]) {
-    say(before);
     count(tokens as u64);
-    say(after);
+    say(b"\n");
 }
 
 fn say(words: &[u8]) {
