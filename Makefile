@@ -33,12 +33,12 @@ native: kit
 	@tools/lib target/native
 	@echo 'native: target/native has libighzamrel.a, include/ighzamrel.h and pkgconfig/ighzamrel.pc for this machine'
 
-# the stored list of the program `cases`, made anew from the Rust's answers and document 01's rules
+# the stored list of the program `cases`, made anew from the Rust's answers and the rules
 list:
 	tools/oracle/build
 	target/oracle/oracle list crates/cases
 
-# flattening, the proved C function against the Rust and document 01's model in one process: all strings of up to three bytes, CASES random
+# flattening, the proved C function against the Rust and the rules' model in one process: all strings of up to three bytes, CASES random
 # ones, damaged ones, and the glyphs of the fonts in the folders FONTS; with SECONDS, a sample of so many seconds. SEED repeats a run.
 CASES = 10000000
 SEED =
@@ -60,7 +60,7 @@ fixed:
 	tools/oracle/build fixed
 	target/oracle/fixed
 
-# the nine C functions under libFuzzer for SECONDS, against the Rust and document 01's rules; what it learns is kept in the folder CORPUS
+# the nine C functions under libFuzzer for SECONDS, against the Rust and the rules; what it learns is kept in the folder CORPUS
 CORPUS = target/fuzz/corpus
 fuzz:
 	fuzz/build

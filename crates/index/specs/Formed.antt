@@ -1,4 +1,4 @@
--- A list that is well formed (document 01, "INDEX"): the read is accepted, no last offset of 0 emptied it, and every entry is present.
+-- A list that is well formed (RULES, "INDEX"): the read is accepted, no last offset of 0 emptied it, and every entry is present.
 use Prim.Native.Nat.{ℕ, zero, suc, _+_}
 use mathlib.Core.Bool.{Bool, true, false, cond}
 use mathlib.Core.List.{List}

@@ -1,4 +1,4 @@
--- A call's operand as an index (document 01, "Numbers"), and the entry that it names (TN5176, section 16, "Local/Global Subrs INDEXes").
+-- A call's operand as an index (RULES, "Numbers"), and the entry that it names (the same; TN5176, section 16).
 use Prim.Native.Nat.{ℕ, zero, suc, _+_, _-_, _*_, _/_, _^_}
 use mathlib.Core.Bool.{Bool, cond, _||_}
 use lib.IntN.{ℤ, pos, negsuc, negℤ, natAbs, _+ℤ_}
@@ -61,7 +61,7 @@ biased count (refused n v) = refused n v
 unfoldable pub callee : Bool → ℕ → Operand → Answer ℕ
 callee exact count o = biased count (callIndex exact o)
 
--- what the enums say, by document 01's numbers
+-- what the enums say
 abbrev pub wholeOf : Whole → Answer ℤ
 wholeOf (Is z) = accepted z
 wholeOf Not = refused 7 alone

@@ -1,4 +1,4 @@
--- The flat string: its bytes, and its reading straight through.
+-- The flat string (RULES, "Tokens and items", "How a charstring runs"; TN5177, section 3): its bytes, and its reading straight through.
 use Prim.Native.Nat.{ℕ, zero, suc}
 use mathlib.Core.Bool.{Bool, true, false, cond}
 use mathlib.Core.List.{List, [], _∷_, _++_}

@@ -1,5 +1,5 @@
 -- Items, which a flat string is made of, and what they leave behind: the operands that wait, the hints, and the mask length
--- (document 01, "How a charstring runs"; TN5177, section 4.3).
+-- (RULES, "How a charstring runs"; TN5177, section 4.3).
 use Prim.Native.Nat.{ℕ, _+_, _/_}
 use mathlib.Core.Bool.{cond}
 use mathlib.Core.List.{List, [], _∷_}

@@ -1,4 +1,4 @@
--- The subroutine lists as a run sees them: how many entries a list has, and for each number its bytes or its absence.
+-- The subroutine lists as a run sees them (TN5176, section 16; RULES, "INDEX"): how many entries a list has, and for each number its bytes or its absence.
 use Prim.Native.Nat.{ℕ}
 use mathlib.Core.List.{List}
 use Rattle.number.specs.Answer.{Answer, accepted, refused}

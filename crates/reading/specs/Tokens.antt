@@ -1,4 +1,4 @@
--- Bytes cut into tokens: a number, or an operator with its escape byte (TN5177, sections 3.1 and 3.2). What a mask takes is not known here.
+-- Bytes cut into tokens: a number, or an operator with its escape byte (TN5177, 3.1, 3.2; RULES, "Tokens and items"). What a mask takes is not known here.
 use Prim.Native.Nat.{ℕ, _<_}
 use mathlib.Core.Bool.{true, false, cond}
 use mathlib.Core.List.{List, [], _∷_}
