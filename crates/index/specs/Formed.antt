@@ -30,6 +30,7 @@ unfoldable pub formedBy : ℕ → List ℕ → Answer Extent → Formation
 formedBy w s (accepted x) = cond (eqb (x .entries) (beAt s 0 w)) (entriesFrom w s 0 (x .entries)) emptied
 formedBy w s (refused k v) = unread k
 
+-- of the list at the start of s
 unfoldable pub formation : ℕ → List ℕ → Formation
 formation w s = formedBy w s (extent w s)
 

@@ -45,6 +45,7 @@ callIndex exact o =
     (cond (counts exact (natAbs (o .value))) (accepted (signedAs (o .value) (nearest (natAbs (o .value))))) (refused 7 alone))
     (accepted (o .value))
 
+-- the bias of a list of so many entries (TN5176, section 16)
 abbrev pub biasOf : ℕ → ℕ
 biasOf count = cond (ltb count 1240) 107 (cond (ltb count 33900) 1131 32768)
 

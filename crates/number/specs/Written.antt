@@ -56,6 +56,7 @@ unfoldable pub bytesBy : Answer Form → List ℕ
 bytesBy (accepted f) = bytes f
 bytesBy (refused n v) = []
 
+-- the bytes that a table gives an operand
 unfoldable pub spelling : List Row → Operand → List ℕ
 spelling rows o = bytesBy (spell rows o)
 

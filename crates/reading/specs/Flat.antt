@@ -63,5 +63,6 @@ module _ (rules : Rules) where
   straightFrom (suc fuel) f [] = record { items = f; rest = [] }
   straightFrom (suc fuel) f (b ∷ bs) = behind (λ g more. straightFrom fuel g more) f (b ∷ bs) (cut (b ∷ bs))
 
+  -- bytes from the start
   unfoldable pub straight : List ℕ → Straight
   straight bytes = straightFrom (length bytes) [] bytes

@@ -32,8 +32,10 @@ unfoldable pub entryBy : {A : Type 0} → A → Answer Place → Entry A
 entryBy x (accepted p) = present x
 entryBy x (refused n v) = absent
 
+-- one list; bytes that are no INDEX have no entries
 unfoldable pub subrsOf : ℕ → List ℕ → Subrs
 subrsOf w s = record { count = countIn (extent w s); entry = λ k. entryBy (part w s k) (place w s k) }
 
+-- both lists
 unfoldable pub listsOf : ℕ → List ℕ → List ℕ → Lists
 listsOf w globals locals = record { globals = subrsOf w globals; locals = subrsOf w locals }

@@ -22,10 +22,12 @@ pub data Cut : Type 0 where
   token : Token → List ℕ → Cut
   lacking : Cut
 
+-- the operator of the byte behind the escape byte
 unfoldable pub escapedAt : List ℕ → Cut
 escapedAt [] = lacking
 escapedAt (b ∷ s) = token (operator (record { escaped = true; byte = b })) s
 
+-- the operator at the start of bytes: 12 is the escape byte
 unfoldable pub operatorAt : List ℕ → Cut
 operatorAt [] = lacking
 operatorAt (b ∷ s) = cond (eqb b 12) (escapedAt s) (token (operator (record { escaped = false; byte = b })) s)
