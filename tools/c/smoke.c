@@ -1,5 +1,5 @@
 /*
- * Calls each function of include/ighzamrel.h on document 01's examples, and looks at the answer, at each place and
+ * Calls each function of include/ighzamrel.h on the examples of docs/RULES.md, and looks at the answer, at each place and
  * at every lent byte, also where nothing may change.
  */
 #include "ighzamrel.h"
@@ -133,7 +133,7 @@ static void call_indexes(void)
     call_index(IGHZAMREL_FIXED, 0x7FFFFFFF, IGHZAMREL_PLAIN, 0, 32768);
 }
 
-/* the local INDEX of document 01's rows, and a font's list that has no entries */
+/* the local list L of docs/RULES.md, and a font's list that has no entries */
 static const uint8_t L[] = {0x00, 0x01, 0x01, 0x01, 0x05, 0x8C, 0x8D, 0x15, 0x0B};
 static const uint8_t EMPTY[] = {0x00, 0x00};
 

@@ -1,4 +1,4 @@
-// A line as an operation makes it: document 01's number and the values, and what follows of the
+// A line as an operation makes it: the answer's number and the values, and what follows of the
 // room. A struct by value, so that an operation has nothing to do with output.
 use crate::arguments::first;
 use crate::room::changed;

@@ -1,4 +1,4 @@
-// What the token at a place asks for, and the refusals 3 to 7, 11 and 12 in document 01's order.
+// What the token at a place asks for, and the refusals 3 to 7, 11 and 12 in their order.
 use crate::operator::clears;
 use crate::operator::kind_of;
 use crate::state::State;

@@ -1,4 +1,4 @@
--- A font part: three lengths of four bytes, the most significant first, and then the charstring, the global list and the local list.
+-- A font part (RULES, "Font parts"): three lengths of four bytes, the most significant first, and then the charstring, the global list and the local list.
 -- What the program makes of any bytes.
 use Prim.Native.Nat.{ℕ, _+_}
 use mathlib.Core.Bool.{cond}
@@ -12,7 +12,7 @@ use Rattle.reading.specs.Answers.{Flattening, flattened, flattening}
 use Rattle.flatten.specs.declared.part.Reply.{Reply}
 use Rattle.flatten.specs.declared.part.Reply.the-variants.{Flattened, Headless, Says}
 
--- What is told of the bytes: an answer of document 01; no font part, for the lengths are not all there; or none, for by its lengths it would
+-- What is told of the bytes: an answer of flattening; no font part, for the lengths are not all there; or none, for by its lengths it would
 -- have so many bytes.
 pub data Told : Type 0 where
   answered : Answer Flattening → Told

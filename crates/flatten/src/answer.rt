@@ -1,4 +1,4 @@
-// What came of a font part: document 01's number and its values, and a sentence.
+// What came of a font part: the answer's number and its values, and a sentence.
 use crate::hex::write_hex;
 use crate::part::Reply;
 use libc::STDERR_FILENO;

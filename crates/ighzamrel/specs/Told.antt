@@ -1,4 +1,4 @@
--- What a C function tells: its number, and what is at the places that were lent to it.
+-- What a C function tells: its number, and what is at the places that were lent to it (RULES, "Answers", "Refusals").
 use Prim.Native.Nat.{ℕ}
 use mathlib.Core.Bool.{Bool, true, false, not, cond}
 use lib.IntN.{ℤ}
@@ -27,7 +27,7 @@ profileOf n = cond (eqb n 0) Plain Strict
 
 -- ---- what is told
 
--- A number of document 01, and what is at the places; of several places, a record of what is at each.
+-- An answer's number, and what is at the places; of several places, a record of what is at each.
 pub record Told (A : Type 0) : Type 0 where
   pub number : ℕ
   pub places : A

@@ -1,5 +1,5 @@
 // The C functions, thin over the crates below; include/ighzamrel.h declares them. Each answers 0 or a
-// refusal's number of document 01, which is the `number` of the answer below, and leaves a place for a
+// refusal's number, which is the `number` of the answer below, and leaves a place for a
 // value that the answer does not give as it was. No function has a `requires`: each answers every
 // input, and its contract says with what.
 //

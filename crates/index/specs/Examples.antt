@@ -1,4 +1,4 @@
--- Document 01's INDEXes and those at its edges, by the definitions. Assumes nothing.
+-- The INDEXes of RULES, "INDEX", and those at their edges, by the definitions. Assumes nothing.
 use mathlib.Core.Path.{_≡_, refl}
 use mathlib.Core.List.{List, [], _∷_}
 use Prim.Native.Nat.{ℕ}

@@ -1,4 +1,4 @@
--- A list that is well formed (document 01, "INDEX"): the read is accepted, no last offset of 0 emptied it, and every entry is present.
+-- A list that is well formed (RULES, "INDEX"): the read is accepted, no last offset of 0 emptied it, and every entry is present.
 use Prim.Native.Nat.{ℕ, zero, suc, _+_}
 use mathlib.Core.Bool.{Bool, true, false, cond}
 use mathlib.Core.List.{List}
@@ -30,6 +30,7 @@ unfoldable pub formedBy : ℕ → List ℕ → Answer Extent → Formation
 formedBy w s (accepted x) = cond (eqb (x .entries) (beAt s 0 w)) (entriesFrom w s 0 (x .entries)) emptied
 formedBy w s (refused k v) = unread k
 
+-- of the list at the start of s
 unfoldable pub formation : ℕ → List ℕ → Formation
 formation w s = formedBy w s (extent w s)
 

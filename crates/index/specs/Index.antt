@@ -1,4 +1,4 @@
--- An INDEX (TN5176, section 5, "INDEX Data"): a count; for a count that is not 0 an offset size, count + 1 offsets of that size, and the data.
+-- An INDEX (TN5176, section 5; RULES, "INDEX"): a count; for a count that is not 0 an offset size, count + 1 offsets of that size, and the data.
 -- Offsets are counted from the byte before the data, so the last one is one more than the data's length.
 -- The count has w bytes: 2 in CFF. Below, s is the bytes, n the count and z the offset size.
 use Prim.Native.Nat.{ℕ, _+_, _-_, _*_}
@@ -125,7 +125,7 @@ partAt w at s i = partBy at s (place w s i)
 abbrev pub partSeen : ℕ → ℕ × ℕ → List ℕ → ℕ → ℕ → ℕ → Part
 partSeen w at s n z i = partBy at s (placeSeen w s n z i)
 
--- ---- what the readers' answers say, by document 01's numbers
+-- ---- what the readers' answers say
 
 abbrev pub indexRead : IndexRead → Answer Extent
 indexRead (Read n t) = accepted (record { entries = n; taken = t })

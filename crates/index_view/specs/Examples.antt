@@ -1,4 +1,4 @@
--- Views of document 01's INDEXes and of those at its edges, by the definitions. Assumes nothing.
+-- Views of the INDEXes of RULES, "INDEX", and of those at their edges, by the definitions. Assumes nothing.
 use mathlib.Core.Path.{_≡_, refl}
 use mathlib.Core.List.{List, [], _∷_}
 use Prim.Native.Nat.{ℕ}

@@ -1,4 +1,4 @@
--- A view of one INDEX: its own bytes with its count and its offset size, and an entry found by these alone.
+-- A view of one INDEX (RULES, "INDEX"): its own bytes with its count and its offset size, and an entry found by these alone.
 -- As in Index, the count has w bytes, and s is the bytes.
 use Prim.Native.Nat.{ℕ}
 use mathlib.Core.List.{List, []}

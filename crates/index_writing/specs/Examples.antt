@@ -1,4 +1,4 @@
--- Document 01's written INDEXes and those at its edges, by the definitions. Assumes nothing.
+-- The written INDEX of RULES, "INDEX", and those at the edges, by the definitions. Assumes nothing.
 use mathlib.Core.Path.{_≡_, refl}
 use mathlib.Core.List.{List, [], _∷_}
 use Prim.Native.Nat.{ℕ}

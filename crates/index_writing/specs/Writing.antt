@@ -1,5 +1,5 @@
--- An INDEX written (TN5176, section 5, "INDEX Data"), from its elements' lengths and their joined data. The count has w bytes: 2 in CFF.
--- The last offset is one more than the sum of the lengths: document 01's S.
+-- An INDEX written (TN5176, section 5; RULES, "INDEX"), from its elements' lengths and their joined data. The count has w bytes: 2 in CFF.
+-- The last offset is one more than the sum of the lengths: the rules' S.
 use Prim.Native.Nat.{ℕ, _+_, _*_, _^_}
 use mathlib.Core.Bool.{cond}
 use mathlib.Core.List.{List, [], _∷_, _++_}
@@ -54,7 +54,7 @@ indexOf w lengths joined =
 unfoldable pub writeIndex : ℕ → List ℕ → List ℕ → List ℕ → Outcome (Answer ℕ)
 writeIndex w lengths joined out = into out (mapped sized (indexOf w lengths joined))
 
--- what the writer's enum says, by document 01's numbers
+-- what the writer's enum says
 abbrev pub indexWritten : IndexWritten → Answer ℕ
 indexWritten (Bytes n) = accepted n
 indexWritten (NoRoom n) = refused 13 (needing n)

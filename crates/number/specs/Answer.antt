@@ -1,4 +1,4 @@
--- What a public function answers, by the rules' numbers, and what it leaves in the bytes that were lent.
+-- What a public function answers, and what it leaves in the bytes that were lent (RULES, "Answers").
 use Prim.Native.Nat.{ℕ}
 use mathlib.Core.Bool.{cond}
 use mathlib.Core.List.{List, _++_}

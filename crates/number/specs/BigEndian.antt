@@ -1,4 +1,4 @@
--- Numbers of several bytes, the most significant first (TN5176, section 3, "Data Types").
+-- Numbers of several bytes, the most significant first (TN5176, section 3; RULES, "Numbers").
 use Prim.Native.Nat.{ℕ, zero, suc, _+_, _*_, _/_, _%_}
 use mathlib.Core.Bool.{Bool, cond, _&&_}
 use mathlib.Core.List.{List, [], _∷_, _++_}

@@ -1,4 +1,4 @@
--- A call's operand as an index (document 01, "Numbers"), and the entry that it names (TN5176, section 16, "Local/Global Subrs INDEXes").
+-- A call's operand as an index (RULES, "Numbers"), and the entry that it names (the same; TN5176, section 16).
 use Prim.Native.Nat.{ℕ, zero, suc, _+_, _-_, _*_, _/_, _^_}
 use mathlib.Core.Bool.{Bool, cond, _||_}
 use lib.IntN.{ℤ, pos, negsuc, negℤ, natAbs, _+ℤ_}
@@ -45,6 +45,7 @@ callIndex exact o =
     (cond (counts exact (natAbs (o .value))) (accepted (signedAs (o .value) (nearest (natAbs (o .value))))) (refused 7 alone))
     (accepted (o .value))
 
+-- the bias of a list of so many entries (TN5176, section 16)
 abbrev pub biasOf : ℕ → ℕ
 biasOf count = cond (ltb count 1240) 107 (cond (ltb count 33900) 1131 32768)
 
@@ -61,7 +62,7 @@ biased count (refused n v) = refused n v
 unfoldable pub callee : Bool → ℕ → Operand → Answer ℕ
 callee exact count o = biased count (callIndex exact o)
 
--- what the enums say, by document 01's numbers
+-- what the enums say
 abbrev pub wholeOf : Whole → Answer ℤ
 wholeOf (Is z) = accepted z
 wholeOf Not = refused 7 alone

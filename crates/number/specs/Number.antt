@@ -1,4 +1,4 @@
--- The numbers of charstrings and DICTs: TN5176, section 4, Table 3, and TN5177, section 3.2, Table 1, as a table of data that one reader interprets.
+-- The numbers of charstrings and DICTs (TN5176, section 4, Table 3; TN5177, section 3.2, Table 1; RULES, "Numbers"): a table of data, and its reader.
 use Prim.Native.Nat.{ℕ, _+_, _-_, _*_, _^_}
 use mathlib.Core.Bool.{Bool, true, false, cond, _&&_}
 use mathlib.Core.List.{List, [], _∷_, _++_}
@@ -114,7 +114,7 @@ numberBy (row r) s =
 unfoldable pub readBy : List Row → List ℕ → Answer Number
 readBy rows s = cond (eqb (length s) 0) (refused 4 alone) (numberBy (rowOf (getD s 0 0) rows) s)
 
--- what a `NumberRead` says, by document 01's numbers
+-- what a `NumberRead` says
 abbrev pub numberRead : NumberRead → Answer Number
 numberRead (Read o n) = accepted (record { operand = o; width = n })
 numberRead Lacking = refused 4 alone

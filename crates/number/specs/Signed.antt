@@ -1,4 +1,4 @@
--- Numbers in two's complement.
+-- Numbers in two's complement (TN5176, section 4; RULES, "Numbers").
 use Prim.Native.Nat.{ℕ, suc, _+_, _-_}
 use mathlib.Core.Bool.{cond}
 use lib.IntN.{ℤ, pos, negsuc, subℕ}

@@ -1,4 +1,4 @@
--- Numbers written: in the first row of the table that has the operand, and so in the shortest form (`shortest` of RoundTripLaws.antt).
+-- Numbers written (RULES, "Numbers"): in the first row of the table that has the operand, and so in the shortest form (`shortest` of RoundTripLaws.antt).
 use Prim.Native.Nat.{ℕ, _+_, _-_, _*_, _/_, _%_, _^_}
 use mathlib.Core.Bool.{Bool, true, false, cond, not, _&&_}
 use mathlib.Core.List.{List, [], _∷_}
@@ -56,6 +56,7 @@ unfoldable pub bytesBy : Answer Form → List ℕ
 bytesBy (accepted f) = bytes f
 bytesBy (refused n v) = []
 
+-- the bytes that a table gives an operand
 unfoldable pub spelling : List Row → Operand → List ℕ
 spelling rows o = bytesBy (spell rows o)
 
@@ -63,7 +64,7 @@ spelling rows o = bytesBy (spell rows o)
 unfoldable pub write : List Row → Operand → List ℕ → Outcome (Answer ℕ)
 write rows o out = into out (mapped (λ (f : Form). sized (bytes f)) (spell rows o))
 
--- what the enums say, by document 01's numbers
+-- what the enums say
 abbrev pub coded : Coded → Answer Form
 coded (Is f) = accepted f
 coded NoForm = refused 17 alone

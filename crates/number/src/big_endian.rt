@@ -1,5 +1,5 @@
 // Numbers of up to four bytes, the most significant first: the offsets of an INDEX, and the Rust's
-// `U24`. They serve the crates above, and answer with none of document 01's numbers.
+// `U24`. They serve the crates above, and answer with no refusal's number.
 ghost use mathlib.Core.Path.{_≡_};
 ghost use Prim.Native.Nat.{_+_, _≤_};
 ghost use lib.ListN.{length};

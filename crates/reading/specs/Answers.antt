@@ -1,4 +1,4 @@
--- What flattening answers and leaves, by document 01's numbers ("What comes back").
+-- What flattening answers and leaves (RULES, "How a charstring runs", "Refusals").
 use Prim.Native.Nat.{ℕ}
 use mathlib.Core.List.{List}
 use lib.ListN.{length}

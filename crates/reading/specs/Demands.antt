@@ -1,4 +1,4 @@
--- What the demands say of an accepted flattening, as types: what a reader must believe. The proofs stand in DemandLaws.antt.
+-- What the demands (docs/PROOFS.md, "The three demands") say of an accepted flattening, as types. The proofs stand in DemandLaws.antt.
 -- F is what an accepted flattening leaves at the start of the room, and x its answer: F's length and the tokens, n.
 use Prim.Native.Nat.{ℕ, _<_, _≤_}
 use mathlib.Core.Path.{_≡_}

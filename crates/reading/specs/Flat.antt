@@ -1,4 +1,4 @@
--- The flat string: its bytes, and its reading straight through.
+-- The flat string (RULES, "Tokens and items", "How a charstring runs"; TN5177, section 3): its bytes, and its reading straight through.
 use Prim.Native.Nat.{ℕ, zero, suc}
 use mathlib.Core.Bool.{Bool, true, false, cond}
 use mathlib.Core.List.{List, [], _∷_, _++_}
@@ -63,5 +63,6 @@ module _ (rules : Rules) where
   straightFrom (suc fuel) f [] = record { items = f; rest = [] }
   straightFrom (suc fuel) f (b ∷ bs) = behind (λ g more. straightFrom fuel g more) f (b ∷ bs) (cut (b ∷ bs))
 
+  -- bytes from the start
   unfoldable pub straight : List ℕ → Straight
   straight bytes = straightFrom (length bytes) [] bytes

@@ -1,5 +1,5 @@
 -- Items, which a flat string is made of, and what they leave behind: the operands that wait, the hints, and the mask length
--- (document 01, "How a charstring runs"; TN5177, section 4.3).
+-- (RULES, "How a charstring runs"; TN5177, section 4.3).
 use Prim.Native.Nat.{ℕ, _+_, _/_}
 use mathlib.Core.Bool.{cond}
 use mathlib.Core.List.{List, [], _∷_}
@@ -45,6 +45,7 @@ counted x = record { operands = []; hints = hintsWith x; mask = x .mask }
 abbrev pub atMask : Left → Left
 atMask x = cond (eqb (x .mask) 0) (record { operands = []; hints = hintsWith x; mask = (hintsWith x + 7) / 8 }) x
 
+-- what an operator leaves, by its kind
 unfoldable pub byKind : Kind → Left → Left
 byKind Stem x = counted x
 byKind Clear x = cleared x
@@ -54,6 +55,7 @@ byKind Return x = x
 byKind End x = x
 byKind Unknown x = x
 
+-- what an item leaves of what was there
 unfoldable pub leaves : Rules → Item → Left → Left
 leaves rules (operand o) x = pushed o x
 leaves rules (bare p) x = byKind (rules .kind p) x

@@ -1,4 +1,4 @@
--- The subroutine lists as a run sees them: how many entries a list has, and for each number its bytes or its absence.
+-- The subroutine lists as a run sees them (TN5176, section 16; RULES, "INDEX"): how many entries a list has, and for each number its bytes or its absence.
 use Prim.Native.Nat.{ℕ}
 use mathlib.Core.List.{List}
 use Rattle.number.specs.Answer.{Answer, accepted, refused}
@@ -32,8 +32,10 @@ unfoldable pub entryBy : {A : Type 0} → A → Answer Place → Entry A
 entryBy x (accepted p) = present x
 entryBy x (refused n v) = absent
 
+-- one list; bytes that are no INDEX have no entries
 unfoldable pub subrsOf : ℕ → List ℕ → Subrs
 subrsOf w s = record { count = countIn (extent w s); entry = λ k. entryBy (part w s k) (place w s k) }
 
+-- both lists
 unfoldable pub listsOf : ℕ → List ℕ → List ℕ → Lists
 listsOf w globals locals = record { globals = subrsOf w globals; locals = subrsOf w locals }

@@ -1,4 +1,4 @@
--- Hint masks by TN5177 alone (section 4.3): a stem operator declares a hint for every two operands before it; operands that wait at the
+-- Hint masks by TN5177 alone (section 4.3), not by RULES: a stem operator declares a hint for every two operands before it; operands that wait at the
 -- first mask are vertical stems whose operator was left out; and a mask has a bit for each hint declared, in whole bytes.
 use Prim.Native.Nat.{ℕ, suc, _+_, _/_}
 use mathlib.Core.Path.{_≡_}

@@ -1,4 +1,4 @@
--- The call-following reading: what a charstring with its two lists means (TN5177; document 01, "How a charstring runs").
+-- The call-following reading: what a charstring with its two lists means (TN5177; RULES, "How a charstring runs").
 -- Below, rest is the bytes that are still to be read, and s the state before a token, which a refusal keeps.
 use Prim.Native.Nat.{ℕ, zero, suc, _+_, _-_}
 use mathlib.Core.Bool.{Bool, true, false, cond}
@@ -48,7 +48,7 @@ start = record { left = nothing; shown = []; within = [] }
 
 -- ---- how a reading ends
 
--- back to the caller, by running out or by a return; all ended, by endchar; or refused, with document 01's number
+-- back to the caller, by running out or by a return; all ended, by endchar; or refused, with a number
 pub data Ending : Type 0 where
   back : Ending
   ended : Ending

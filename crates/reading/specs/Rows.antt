@@ -1,4 +1,4 @@
--- Document 01's starred rows ("Flattenings to reproduce"), proved as one list, and a second list of ours for what those rows miss.
+-- The starred rows (RULES, "Examples"), proved as one list; a second list for what those rows miss; and a third in which refusals compete.
 use mathlib.Core.Path.{_≡_, refl}
 use mathlib.Core.List.{List, [], _∷_, _++_}
 use mathlib.Core.Bool.{Bool, false}
@@ -54,7 +54,7 @@ All (r ∷ rs) = Holds r × All rs
 abbrev none : List ℕ
 none = 0x00 ∷ 0x00 ∷ []
 
--- document 01's L
+-- the list L of RULES, "Examples"
 abbrev L : List ℕ
 L = 0x00 ∷ 0x01 ∷ 0x01 ∷ 0x01 ∷ 0x05 ∷ 0x8C ∷ 0x8D ∷ 0x15 ∷ 0x0B ∷ []
 
@@ -70,7 +70,7 @@ abbrev within : Rules → ℕ → ℕ → List ℕ → List ℕ → List ℕ →
 within rules budget room cs globals locals e =
     record { charstring = cs; globals = globals; locals = locals; rules = rules; budget = budget; room = room; expected = e }
 
--- document 01's starred rows, in its order, each followed by its second half
+-- the starred rows in their order, each followed by its second half
 abbrev pub starred : List Row
 starred =
     row [] none (gives [] 0)

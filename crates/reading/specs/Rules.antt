@@ -1,4 +1,4 @@
--- The rules of a run: limits, and what each operator is (TN5177, section 4; document 01, "How a charstring runs").
+-- The rules of a run: limits, and what each operator is (TN5177, section 4; RULES, "Tokens and items", "Profiles").
 -- All that rule sets differ in stands here: no operator's byte is tested anywhere else.
 use Prim.Native.Nat.{ℕ}
 use mathlib.Core.Bool.{Bool, true, false, cond, _||_}

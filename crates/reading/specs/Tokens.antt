@@ -1,4 +1,4 @@
--- Bytes cut into tokens: a number, or an operator with its escape byte (TN5177, sections 3.1 and 3.2). What a mask takes is not known here.
+-- Bytes cut into tokens: a number, or an operator with its escape byte (TN5177, 3.1, 3.2; RULES, "Tokens and items"). What a mask takes is not known here.
 use Prim.Native.Nat.{ℕ, _<_}
 use mathlib.Core.Bool.{true, false, cond}
 use mathlib.Core.List.{List, [], _∷_}
@@ -22,10 +22,12 @@ pub data Cut : Type 0 where
   token : Token → List ℕ → Cut
   lacking : Cut
 
+-- the operator of the byte behind the escape byte
 unfoldable pub escapedAt : List ℕ → Cut
 escapedAt [] = lacking
 escapedAt (b ∷ s) = token (operator (record { escaped = true; byte = b })) s
 
+-- the operator at the start of bytes: 12 is the escape byte
 unfoldable pub operatorAt : List ℕ → Cut
 operatorAt [] = lacking
 operatorAt (b ∷ s) = cond (eqb b 12) (escapedAt s) (token (operator (record { escaped = false; byte = b })) s)

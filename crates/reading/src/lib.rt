@@ -76,7 +76,7 @@ pub fn rules_of(profile: Profile) -> Rules
     }
 }
 
-// Why a run stopped: document 01's refusals 3 to 12.
+// Why a run stopped: the refusals 3 to 12.
 pub enum Refusal {
     BudgetSpent,
     BytesLacking,
@@ -90,7 +90,7 @@ pub enum Refusal {
     Composite,
 }
 
-// Document 01's number of a run's refusal.
+// The number of a run's refusal.
 pub fn number_of(why: Refusal) -> u32
     ensures { λ r. ⌜ r ≡ numberOf why ⌝ }
 {

@@ -2,7 +2,7 @@ use crate::{alone, lent, BLANK};
 use ighzamrel::Profile::{Plain, Strict};
 use ighzamrel::*;
 
-/// Document 01's local list.
+/// The local list L of docs/RULES.md.
 const L: &[u8] = &[0x00, 0x01, 0x01, 0x01, 0x05, 0x8C, 0x8D, 0x15, 0x0B];
 const AMPLE: u32 = 1000;
 const ROOM: usize = 64;

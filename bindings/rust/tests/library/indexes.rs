@@ -1,7 +1,7 @@
 use crate::{alone, refuses, writes};
 use ighzamrel::*;
 
-/// Document 01's local list.
+/// The local list L of docs/RULES.md.
 const L: [u8; 9] = [0x00, 0x01, 0x01, 0x01, 0x05, 0x8C, 0x8D, 0x15, 0x0B];
 
 #[test]

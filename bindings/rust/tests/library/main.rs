@@ -1,4 +1,4 @@
-//! The crate on document 01's examples, its refusals and its lent bytes, and held against the C header.
+//! The crate on the examples of docs/RULES.md, its refusals and its lent bytes, and held against the C header.
 
 mod flattening;
 mod font;
