@@ -1,19 +1,13 @@
 //! Flattening the glyphs of real fonts, and strings that are made to cost: ours and the unchanged Rust in one
 //! process, in turns, the best of many passes.
 
-#[path = "../tools/oracle/fonts.rs"]
-mod fonts;
 mod hand;
 mod hostile;
-#[path = "../tools/oracle/library.rs"]
-mod library;
-#[path = "../tools/oracle/flattening/lists.rs"]
-mod lists;
 mod ours;
 mod timing;
 
-use fonts::{Font, Glyph};
-use lists::Lists;
+use oracle::fonts::{self, Font, Glyph};
+use oracle::source::flattening::Lists;
 use ours::ours;
 use std::hint::black_box;
 use std::path::PathBuf;

@@ -1,8 +1,8 @@
 //! The runner's loop by hand (by_hand.c): what a token may cost on this machine at least.
 
-use crate::fonts::Glyph;
 use crate::ours::ours;
 use crate::AMPLE;
+use oracle::fonts::Glyph;
 
 unsafe extern "C" {
     fn by_hand(

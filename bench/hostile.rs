@@ -1,22 +1,18 @@
 //! Strings that are made to cost. Their time must follow the tokens, the room and the lists, and nothing else.
 
-use crate::fonts::Glyph;
 use crate::ours::ours;
 use crate::timing::best_of;
+use oracle::fonts::Glyph;
+use oracle::inputs::case::{list, FIRST, GLOBAL, LOCAL, NONE as NO_LIST};
 use std::hint::black_box;
 
 const PASSES: u32 = 5;
 const AMPLE: u32 = u32::MAX;
 
-const LOCAL: u8 = 0x0A;
 const RETURN: u8 = 0x0B;
 const HSTEM: u8 = 0x01;
 const HINTMASK: u8 = 0x13;
-const GLOBAL: u8 = 0x1D;
 const ZERO: u8 = 0x8B;
-/// The number that calls entry 0 of a short list.
-const FIRST: u8 = 0x20;
-const NO_LIST: &[u8] = &[0, 0];
 
 pub fn print() {
     println!("| what | budget | room | answer | tokens | milliseconds | nanoseconds a token |");
@@ -78,18 +74,4 @@ fn wide_masks(doublings: u8) -> (Vec<u8>, Vec<u8>) {
     let mut entries = vec![mask.repeat(64)];
     entries.extend((0..doublings).map(|i| vec![FIRST + i, GLOBAL, FIRST + i, GLOBAL]));
     (charstring, list(&entries))
-}
-
-/// An INDEX of these entries.
-fn list(entries: &[Vec<u8>]) -> Vec<u8> {
-    let mut bytes = (entries.len() as u16).to_be_bytes().to_vec();
-    bytes.push(4);
-    let mut offset = 1u32;
-    bytes.extend(offset.to_be_bytes());
-    for entry in entries {
-        offset += entry.len() as u32;
-        bytes.extend(offset.to_be_bytes());
-    }
-    bytes.extend(entries.concat());
-    bytes
 }

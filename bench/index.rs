@@ -1,20 +1,13 @@
 //! Reading an INDEX of 30,000 entries, its entries, and whether it is well formed: ours and the
 //! unchanged Rust in one process, in turns, the best of many passes.
 
-#[path = "../tools/oracle/library.rs"]
-mod library;
 mod timing;
 
-use library::{ighzamrel_read_entry, ighzamrel_read_index};
+use oracle::library::{ighzamrel_read_entry, ighzamrel_read_index, tried_well_formed};
 use std::hint::black_box;
 use std::process::ExitCode;
 use subsetter::cff::index::{parse_index, Index};
 use subsetter::read::Reader;
-
-unsafe extern "C" {
-    /// No C function of the product; `run` exports it.
-    fn bench_well_formed(bytes: *const u8, len: usize) -> u32;
-}
 
 const ENTRIES: u32 = 30_000;
 const PASSES: u32 = 200;
@@ -151,9 +144,12 @@ fn entry(bytes: &[u8], number: u32) -> (usize, usize) {
     (place, length)
 }
 
+/// The count of a well-formed list.
 fn formed(bytes: &[u8]) -> u32 {
+    let mut count = 0;
     // SAFETY: the pointer and the length are a slice's.
-    unsafe { bench_well_formed(bytes.as_ptr(), bytes.len()) }
+    unsafe { tried_well_formed(bytes.as_ptr(), bytes.len(), &mut count) };
+    count
 }
 
 fn read_by_the_rust(bytes: &[u8]) -> (u32, usize) {

@@ -1,15 +1,10 @@
 //! Reading and writing the numbers of a charstring: ours and the unchanged Rust in one process, in turns, the best
 //! of many passes.
 
-#[path = "../tools/oracle/library.rs"]
-mod library;
-#[path = "../tools/oracle/random.rs"]
-#[allow(dead_code)]
-mod random;
 mod timing;
 
-use library::{ighzamrel_read_charstring_number, ighzamrel_write_charstring_number};
-use random::Random;
+use oracle::library::{ighzamrel_read_charstring_number, ighzamrel_write_charstring_number};
+use oracle::random::Random;
 use std::hint::black_box;
 use std::process::ExitCode;
 use subsetter::cff::number::Number;

@@ -1,7 +1,8 @@
 //! Flattening by ours.
 
-use crate::fonts::Glyph;
-use crate::library::{flatten_to, PLAIN};
+use oracle::fonts::Glyph;
+use oracle::inputs::case::PLAIN;
+use oracle::library::flatten_to;
 
 /// What ours answers: the number, the length and the tokens.
 #[derive(Clone, Copy)]

@@ -5,6 +5,7 @@
 mod ffi;
 
 pub use ffi::c::*;
+pub use ffi::flatten_to;
 
 extern "C" {
     pub fn tried_callee(kind: u32, value: i32, profile: u32, count: u32, entry: *mut u32) -> u32;

@@ -11,7 +11,7 @@ pub const PLACES: usize = 4;
 pub struct Operation {
     /// Its number in the program `cases`.
     pub number: u8,
-    /// The C function, behind `ighzamrel_`. Those that are none are exported for the comparison by `tools/tried`.
+    /// The C function's, without the library's. Those that are none are exported for the comparison by `tools/tried`.
     pub name: &'static str,
     pub arguments: &'static [Argument],
     pub places: &'static [Place],

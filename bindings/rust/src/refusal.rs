@@ -15,7 +15,7 @@ macro_rules! refusals {
     ($($number:literal $name:ident [$($value:ident)*] $text:literal)*) => {
         /// Why an input was refused. The names and numbers are those of `include/ighzamrel.h`.
         ///
-        /// Its text, by `Display`, is its number and a sentence for a person, as [the first example](crate) shows.
+        /// Its text, by `Display`, is its number and a sentence for a person, as the crate's first example shows.
         #[derive(Clone, Copy, Debug, PartialEq, Eq, Hash, PartialOrd, Ord)]
         #[non_exhaustive]
         #[repr(u32)]

@@ -224,7 +224,7 @@ fn counts(entries: usize) -> Vec<Given> {
     asked
 }
 
-/// The forty subroutines of the mission, each calling the next twice.
+/// The forty subroutines, each calling the next twice.
 fn forty() -> Vec<Given> {
     let mut entries: Vec<Vec<u8>> = (1..40).map(|i| [FIRST + i, LOCAL].repeat(2)).collect();
     entries.push(vec![0x8C, 0x16]);
