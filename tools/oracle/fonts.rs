@@ -1,6 +1,8 @@
-//! The charstrings and subroutine lists of OpenType fonts: the sfnt directory and the CFF table, read just enough.
-//! It is a reader of its own, so that neither side of a comparison speaks for the font.
+//! The charstrings and subroutine lists of OpenType fonts: the sfnt directory and the CFF table, read just enough, INDEXes and
+//! numbers by the rules.
 
+use crate::rules::index as indexes;
+use crate::rules::number::{self as numbers, Operand, Place};
 use std::ops::Range;
 use std::path::{Path, PathBuf};
 use std::{fs, io};
@@ -167,7 +169,7 @@ const ESCAPED: u16 = 0x0C00;
 
 /// Operand `which` of an operator in a DICT, where it is a whole number that is not negative.
 fn operand(dict: &[u8], operator: u16, which: usize) -> Option<usize> {
-    let mut operands: Vec<i64> = Vec::new();
+    let mut operands = Vec::new();
     let mut i = 0;
     while let Some(&b) = dict.get(i) {
         if b > 21 {
@@ -187,50 +189,34 @@ fn operand(dict: &[u8], operator: u16, which: usize) -> Option<usize> {
 }
 
 /// The number at the start of these bytes, and its width. A real, which no operator that is asked for takes, is -1.
-fn dict_number(bytes: &[u8]) -> Option<(i64, usize)> {
-    let b = i64::from(*bytes.first()?);
-    let next = || number(bytes, 1, 1).map(|next| next as i64);
-    Some(match b {
-        28 => (i64::from(number(bytes, 1, 2)? as i16), 3),
-        29 => (i64::from(number(bytes, 1, 4)? as i32), 5),
-        30 => (-1, 2 + bytes[1..].iter().position(|b| b & 0x0F == 0x0F)?),
-        32..=246 => (b - 139, 1),
-        247..=250 => ((b - 247) * 256 + next()? + 108, 2),
-        251..=254 => ((251 - b) * 256 - next()? - 108, 2),
-        _ => return None,
-    })
+fn dict_number(bytes: &[u8]) -> Option<(i32, usize)> {
+    if bytes.first() == Some(&30) {
+        return Some((-1, 2 + bytes[1..].iter().position(|b| b & 0x0F == 0x0F)?));
+    }
+    let (Operand::Integer(n) | Operand::Fixed(n), width) =
+        numbers::read(Place::Dict, bytes).ok()?;
+    Some((n, width))
 }
 
 /// An INDEX of a table.
 struct Index<'a> {
-    table: &'a [u8],
+    bytes: &'a [u8],
     start: usize,
     count: usize,
-    size: usize,
     end: usize,
 }
 
 impl<'a> Index<'a> {
     fn at(table: &'a [u8], start: usize) -> Option<Self> {
-        let count = number(table, start, 2)?;
-        if count == 0 {
-            return Some(Index { table, start, count, size: 0, end: start + 2 });
-        }
-        let size = number(table, start + 2, 1)?;
-        let index = Index { table, start, count, size, end: 0 };
-        let end = index.offset(count)?;
-        (end <= table.len()).then_some(Index { end, ..index })
+        let bytes = table.get(start..)?;
+        let extent = indexes::read(bytes).ok()?;
+        Some(Index { bytes, start, count: extent.entries as usize, end: start + extent.taken })
     }
 
     fn entry(&self, i: usize) -> Option<Range<usize>> {
-        let (from, to) = (self.offset(i)?, self.offset(i + 1)?);
-        (from <= to && to <= self.end).then_some(from..to)
-    }
-
-    /// Where entry i starts in the table.
-    fn offset(&self, i: usize) -> Option<usize> {
-        let data = self.start + 2 + (self.count + 1) * self.size;
-        Some(data + number(self.table, self.start + 3 + i * self.size, self.size)?)
+        let entry = indexes::entry(self.bytes, i as u32).ok()?;
+        let from = self.start + entry.place;
+        Some(from..from + entry.length)
     }
 }
 

@@ -86,92 +86,94 @@ impl Lender {
         self.salt = (self.salt + 29) % ROW;
         let handed = [0, 1, 2].map(|i| handed(call, i));
         let mut places = [UNSET; PLACES];
-        let out = self.out.block(call.room + GUARD, side);
-        let before = if side == Side::Low { 0 } else { GUARD };
-        let mut lent = Lent {
-            slices: [0, 1, 2]
-                .map(|i| (self.arenas[i].block(handed[i].len(), side), handed[i].len())),
-            out: self.out.block(call.room, side),
-            room: call.room,
-            places: places.as_mut_ptr(),
-            side,
-        };
-        if handed[1] == handed[2] && self.salt % 2 == 1 {
-            // two lists may be the very same bytes
-            lent.slices[2] = lent.slices[1];
-        }
-        // SAFETY: each block lies in its arena, and nothing else refers to it.
+        let lent = self.lent(call.room, &handed, &mut places, side);
+        let answer = planted(call)(call, &lent);
+        // SAFETY: each block lies in its arena, and the call is over.
         let (room, slices) = unsafe {
-            ptr::copy_nonoverlapping(self.row[self.salt..].as_ptr(), out, call.room + GUARD);
-            for ((block, size), bytes) in lent.slices.iter().zip(&handed) {
-                ptr::copy_nonoverlapping(bytes.as_ptr(), *block, *size);
-            }
-            let answer = planted(call)(call, &lent);
-            let room = std::slice::from_raw_parts(out, call.room + GUARD);
-            (
-                Room { bytes: room, before, answer },
-                lent.slices.map(|(at, n)| std::slice::from_raw_parts(at, n)),
-            )
+            let all = std::slice::from_raw_parts(self.guarded(call.room, side), call.room + GUARD);
+            (all, lent.slices.map(|(at, n)| std::slice::from_raw_parts(at, n)))
         };
         if slices.iter().zip(&handed).any(|(left, handed)| left[..] != handed[..]) {
             return Err("  a byte of an input was changed\n".into());
         }
-        let outcome = self.outcome(call, &room, &places)?;
+        let before = if side == Side::Low { 0 } else { GUARD };
+        let outcome = outcome(call, answer, &places, &room[before..])?;
         let reported = if call.operation.found == Found::Written { outcome.bytes.len() } else { 0 };
         let row = &self.row[self.salt..];
         let behind = before + reported;
-        if room.bytes[..before] != row[..before]
-            || room.bytes[behind..] != row[behind..room.bytes.len()]
-        {
+        if room[..before] != row[..before] || room[behind..] != row[behind..room.len()] {
             return Err("  a byte was changed outside of what is reported\n".into());
         }
         Ok(outcome)
     }
 
-    /// The values and the bytes that the answer gives; no other place may have changed, and no bit that a type does not reach.
-    fn outcome(&self, call: &Call, room: &Room, places: &[u64; PLACES]) -> Result<Outcome, String> {
-        let operation = call.operation;
-        let answer = room.answer;
-        let Some(given) = operation.given(answer) else {
-            return Err(format!("  {answer} is none of the operation's answers\n"));
-        };
-        let mut outcome = Outcome::refused(answer);
-        for (i, &came) in places.iter().enumerate() {
-            let place = operation.places.get(i).filter(|_| given >> i & 1 == 1);
-            let reached =
-                place.map_or(
-                    0,
-                    |place| if *place == Place::Size { u64::MAX } else { u32::MAX.into() },
-                );
-            if (came ^ UNSET) & !reached != 0 {
-                return Err(format!("  answer {answer} set a place that it does not give\n"));
+    /// The room with its guard.
+    fn guarded(&self, room: usize, side: Side) -> *mut u8 {
+        self.out.block(room + GUARD, side)
+    }
+
+    /// Lays all out.
+    fn lent(
+        &self,
+        room: usize,
+        handed: &[Cow<[u8]>; 3],
+        places: &mut [u64; PLACES],
+        side: Side,
+    ) -> Lent {
+        let block = |i: usize| (self.arenas[i].block(handed[i].len(), side), handed[i].len());
+        let mut slices = [0, 1, 2].map(block);
+        // SAFETY: each block lies in its arena, and nothing else refers to it.
+        unsafe {
+            let pattern = self.row[self.salt..].as_ptr();
+            ptr::copy_nonoverlapping(pattern, self.guarded(room, side), room + GUARD);
+            for ((block, size), bytes) in slices.iter().zip(handed) {
+                ptr::copy_nonoverlapping(bytes.as_ptr(), *block, *size);
             }
-            outcome.values[i] = place.map(|place| match place {
-                Place::U32 => i64::from(came as u32),
-                Place::I32 => i64::from(came as u32 as i32),
-                Place::Size => came as i64,
-            });
         }
-        if answer == 0 {
-            let part = match operation.found {
-                Found::Nothing => Some(&[][..]),
-                Found::Written => (places[0] as usize <= call.room)
-                    .then(|| &room.bytes[room.before..room.before + places[0] as usize]),
-                Found::InSlice => call.slices[0]
-                    .get(places[0] as usize..)
-                    .and_then(|from| from.get(..places[1] as usize)),
-            };
-            outcome.bytes = part.ok_or("  more bytes are reported than there are\n")?.to_vec();
+        if handed[1] == handed[2] && self.salt % 2 == 1 {
+            // two lists may be the very same bytes
+            slices[2] = slices[1];
         }
-        Ok(outcome)
+        Lent { slices, out: self.out.block(room, side), room, places: places.as_mut_ptr(), side }
     }
 }
 
-/// The room with its guard, as it was left; where it starts; and the answer.
-struct Room<'a> {
-    bytes: &'a [u8],
-    before: usize,
+/// The values and the bytes that the answer gives; no other place may have changed, and no bit that a type does not reach.
+fn outcome(
+    call: &Call,
     answer: u32,
+    places: &[u64; PLACES],
+    room: &[u8],
+) -> Result<Outcome, String> {
+    let operation = call.operation;
+    let Some(given) = operation.given(answer) else {
+        return Err(format!("  {answer} is none of the operation's answers\n"));
+    };
+    let mut outcome = Outcome::refused(answer);
+    for (i, &came) in places.iter().enumerate() {
+        let place = operation.places.get(i).filter(|_| given >> i & 1 == 1);
+        let reached =
+            place.map_or(0, |place| if *place == Place::Size { u64::MAX } else { u32::MAX.into() });
+        if (came ^ UNSET) & !reached != 0 {
+            return Err(format!("  answer {answer} set a place that it does not give\n"));
+        }
+        outcome.values[i] = place.map(|place| match place {
+            Place::U32 => i64::from(came as u32),
+            Place::I32 => i64::from(came as u32 as i32),
+            Place::Size => came as i64,
+        });
+    }
+    if answer == 0 {
+        let part = match operation.found {
+            Found::Nothing => Some(&[][..]),
+            Found::Written => room[..call.room].get(..places[0] as usize),
+            Found::InSlice => call.slices[0]
+                .get(places[0] as usize..)
+                .and_then(|from| from.get(..places[1] as usize)),
+        };
+        outcome.bytes = part.ok_or("  more bytes are reported than there are\n")?.to_vec();
+    }
+    Ok(outcome)
 }
 
 /// A slice as the C function takes it: lengths are words of this machine.

@@ -1,23 +1,18 @@
 //! The part of an entry by a view of the INDEX: 12. It is no C function of the library; `tools/tried` exports it.
 
-use super::read_entry::{self, all, any, owed};
+use super::read_entry::{self, all, any, ENTRY};
 use crate::inputs::index::{listed, more};
 use crate::library::{tried_view_byte, tried_view_length};
-use crate::operation::{Argument, Call, Found, Lent, Operation, Place, BARE};
+use crate::operation::{Call, Lent, Operation};
 
 pub static OPERATION: Operation = Operation {
     number: 12,
     name: "entry_by_view",
-    arguments: &[Argument::Number, Argument::List(0)],
-    places: &[Place::Size, Place::Size],
-    answers: &[(0, 0b11), (20, 0), (21, 0), (25, 0)],
-    found: Found::InSlice,
-    owed,
     invoke,
     listed: || all(&OPERATION, listed()),
     more: || all(&OPERATION, more()),
     random: |random| any(&OPERATION, random),
-    ..BARE
+    ..ENTRY
 };
 
 /// A part tells neither its place nor why it is empty: those are the plain reader's, whose entry it must be.

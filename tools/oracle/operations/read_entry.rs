@@ -12,16 +12,21 @@ use std::borrow::Cow;
 pub static OPERATION: Operation = Operation {
     number: 6,
     name: "read_entry",
-    arguments: &[Argument::Number, Argument::List(0)],
-    places: &[Place::Size, Place::Size],
-    answers: &[(0, 0b11), (20, 0), (21, 0), (25, 0)],
-    found: Found::InSlice,
-    owed,
     invoke,
     next,
     listed: || all(&OPERATION, listed()),
     more: || all(&OPERATION, more()),
     random: |random| any(&OPERATION, random),
+    ..ENTRY
+};
+
+/// What both ways to an entry have in common.
+pub const ENTRY: Operation = Operation {
+    arguments: &[Argument::Number, Argument::List(0)],
+    places: &[Place::Size, Place::Size],
+    answers: &[(0, 0b11), (20, 0), (21, 0), (25, 0)],
+    found: Found::InSlice,
+    owed,
     ..BARE
 };
 
