@@ -40,7 +40,7 @@ pub enum Profile {
     Strict,
 }
 
-// All that profiles differ in, as the code has it: the definition's `Rules`.
+// All that rule sets differ in, as the code has it: the definition's `Rules`.
 pub struct Rules {
     // How many operands may wait on the stack.
     pub operands: usize,
@@ -50,6 +50,8 @@ pub struct Rules {
     pub hints: usize,
     // Whether a Fixed index must be whole exactly, or as f32 rounds it.
     pub exact: bool,
+    // Whether `return` and `endchar` are operators: in Type 2 they are.
+    pub ends: bool,
     // How many bytes the count of a list has.
     pub width: Width,
 }
@@ -64,6 +66,7 @@ pub fn rules_of(profile: Profile) -> Rules
             levels: 63,
             hints: 65535,
             exact: false,
+            ends: true,
             width: Width::Two,
         },
         Profile::Strict => Rules {
@@ -71,6 +74,7 @@ pub fn rules_of(profile: Profile) -> Rules
             levels: 10,
             hints: 96,
             exact: true,
+            ends: true,
             width: Width::Two,
         },
     }
