@@ -63,8 +63,8 @@ rules-back r =
       operands = r .operands;
       levels = r .levels;
       hints = r .hints;
-      exact = r .exact;
       ends = ends-back (r .kind);
+      exact = r .exact;
       width = cond (eqb (r .width) 2) Two Four;
     }
 
@@ -75,8 +75,8 @@ rules-undo r =
       operands = r .operands;
       levels = r .levels;
       hints = r .hints;
-      exact = r .exact;
       ends = ends-undo (r .ends) i;
+      exact = r .exact;
       width = width-undo (r .width) i;
     }
 

@@ -176,7 +176,7 @@ competing =
 
 -- no profile's: a value of the code's record, and the runner's proof is over any such value
 abbrev pub third : CodeRules
-third = record { operands = 513; levels = 10; hints = 96; exact = true; ends = false; width = Four }
+third = record { operands = 513; levels = 10; hints = 96; ends = false; exact = true; width = Four }
 
 pub third-meant : meant third ≡ record { operands = 513; levels = 10; hints = 96; exact = true; width = 4; kind = kindBy false }
 third-meant = refl

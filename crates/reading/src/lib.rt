@@ -48,10 +48,10 @@ pub struct Rules {
     pub levels: u32,
     // How many stem hints there may be.
     pub hints: usize,
-    // Whether a Fixed index must be whole exactly, or as f32 rounds it.
-    pub exact: bool,
     // Whether `return` and `endchar` are operators: in Type 2 they are.
     pub ends: bool,
+    // Whether a Fixed index must be whole exactly, or as f32 rounds it.
+    pub exact: bool,
     // How many bytes the count of a list has.
     pub width: Width,
 }
@@ -65,16 +65,16 @@ pub fn rules_of(profile: Profile) -> Rules
             operands: 48,
             levels: 63,
             hints: 65535,
-            exact: false,
             ends: true,
+            exact: false,
             width: Width::Two,
         },
         Profile::Strict => Rules {
             operands: 48,
             levels: 10,
             hints: 96,
-            exact: true,
             ends: true,
+            exact: true,
             width: Width::Two,
         },
     }
