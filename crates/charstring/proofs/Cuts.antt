@@ -19,15 +19,14 @@ use Rattle.number.specs.RoundTripLaws.{read-width, read-inside, Width, one, two
 use Rattle.number.specs.Written.{spelling}
 use Rattle.number.specs.KeptLaws.{one-kept, two-kept}
 use Rattle.number.specs.declared.Operand.{Operand}
-use Rattle.reading.specs.Rules.{Rules, byteKind, meant}
+use Rattle.reading.specs.Rules.{Rules, among, clearing, meant}
 use Rattle.reading.specs.declared.Rules.{Rules as CodeRules}
 use Rattle.reading.specs.declared.Operator.{Operator}
-use Rattle.reading.specs.declared.Kind.the-variants.{Clear}
 use Rattle.reading.specs.Tokens.{number, operator, token, lacking, escapedAt, operatorAt, cutBy, cut}
 use Rattle.charstring.specs.Words.{operandIn, shortOf}
 use Rattle.charstring.specs.Run.{Spelt, stays, Looked}
 use Rattle.charstring.specs.declared.look.Request.the-variants.{Clears, Short}
-use Rattle.charstring.proofs.Operators.{clears-alone, byte-is}
+use Rattle.charstring.proofs.Operators.{clear-is, clears-alone, byte-is}
 use Rattle.charstring.specs.declared.state.State.{State}
 
 -- ---- an operator
@@ -184,7 +183,7 @@ module _ (cs : List ℕ) (i : ℕ) (h : i + 1 < length cs) (low : 31 < getD cs i
 
 -- ---- an operator of one byte that clears the stack
 
-module _ (cs : List ℕ) (i : ℕ) (h : i < length cs) (c : Clear ≡ byteKind (getD cs i 0)) (small : getD cs i 0 < 32) where
+module _ (cs : List ℕ) (i : ℕ) (h : i < length cs) (c : among (getD cs i 0) clearing ≡ true) (small : getD cs i 0 < 32) where
   abbrev operator-here : Operator
   operator-here = record { escaped = false; byte = getD cs i 0 }
 
@@ -203,5 +202,5 @@ module _ (cs : List ℕ) (i : ℕ) (h : i < length cs) (c : Clear ≡ byteKind (
       → Looked (meant rules) cs i budget s (Clears (i + 1) (s .hints) operator-here)
   clear-looked rules budget s t = (
     record { begun = record { ahead = omega arith; inside = omega arith; within = t }; cut-is = clear-at },
-    stays (sym (c ∙ byte-is operator-here refl)) refl,
+    stays (sym (clear-is (rules .ends) (getD cs i 0) c ∙ byte-is (rules .ends) operator-here refl)) refl,
   )

@@ -1,11 +1,12 @@
 -- What `kind_of` answers. Assumes nothing.
-use mathlib.Core.Path.{_≡_, refl, sym, ap, _∙_}
+use mathlib.Core.Path.{_≡_, refl, sym, ap, subst, _∙_}
 use mathlib.Core.List.{List, [], _∷_}
-use mathlib.Core.Bool.{true, false}
+use mathlib.Core.Bool.{Bool, true, false, _||_}
+use lib.Dec.{eqb}
 use Prim.Native.Nat.{ℕ, zero, suc, _+_, _-_, _<_, _≤_}
 use native.Mathlib.Omega.{arith}
-use borrow.Author.Tests.{ne-eqb}
-use Rattle.reading.specs.Rules.{among, clearing, type2, byteKind, escapedKind}
+use borrow.Author.Tests.{ne-eqb, eqb-true}
+use Rattle.reading.specs.Rules.{among, clearing, byteKind, escapedKind, kindBy}
 use Rattle.reading.specs.declared.Operator.{Operator}
 use Rattle.reading.specs.declared.Kind.the-variants.{Clear, Unknown}
 
@@ -21,20 +22,37 @@ past A b (k ∷ ks) n = let m = past (A × (b ≡ k → ⊥)) b ks n in (m .0 .0
 abbrev Other : ℕ → List ℕ → Type 0
 Other b ks = Past (Unit {0}) b ks
 
--- what `clears` answers, at a key and elsewhere
-pub at-key : (b k : ℕ) → b ≡ k → Clear ≡ byteKind k → (true ≡ true → Clear ≡ byteKind b) × (true ≡ false → among b clearing ≡ false)
-at-key b k e c = (λ t. c ∙ ap byteKind (sym e), λ t. let z : _≡_ {A = ℕ} 0 1 = cc in absurd (omega arith))
+-- what `clears` answers where no key is
+pub no-key : (b : ℕ) → Other b clearing → false ≡ among b clearing
+no-key b n = sym (past (Unit {0}) b clearing n .1)
 
-pub at-no-key : (b : ℕ) → Other b clearing → (false ≡ true → Clear ≡ byteKind b) × (false ≡ false → among b clearing ≡ false)
-at-no-key b n = (λ t. let z : _≡_ {A = ℕ} 0 1 = cc in absurd (omega arith), λ t. past (Unit {0}) b clearing n .1)
+-- what holds at each of these numbers, at one of them
+abbrev Each : (ℕ → Type 0) → List ℕ → Type 0
+Each P [] = Unit {0}
+Each P (k ∷ ks) = P k × Each P ks
+
+at-one : (P : ℕ → Type 0) (b : ℕ) (ks : List ℕ) → Each P ks → among b ks ≡ true → P b
+at-one P b [] a e = let z : _≡_ {A = ℕ} 0 1 = cc in absurd (omega arith)
+at-one P b (k ∷ ks) a e = go (eqb b k) refl e (at-one P b ks (a .1))
+  where
+    go : (t : Bool) → eqb b k ≡ t → t || among b ks ≡ true → (among b ks ≡ true → P b) → P b
+    go true q f rest = subst P (sym (eqb-true b k q)) (a .0)
+    go false q f rest = rest f
+
+-- what clears does so whether or not there are `return` and `endchar`
+pub clear-is : (ends : Bool) (b : ℕ) → among b clearing ≡ true → Clear ≡ byteKind ends b
+unfolding byteKind
+clear-is ends b e =
+    at-one (λ (k : ℕ). Clear ≡ byteKind ends k) b clearing
+    (refl, (refl, (refl, (refl, (refl, (refl, (refl, (refl, (refl, (refl, (refl, (refl, (refl, tt))))))))))))) e
 
 -- a byte that is none of the operators
 abbrev others : List ℕ
 others = 1 ∷ 3 ∷ 10 ∷ 11 ∷ 14 ∷ 18 ∷ 19 ∷ 20 ∷ 23 ∷ 29 ∷ []
 
-pub unknown : (b : ℕ) → among b clearing ≡ false → Other b others → Unknown ≡ byteKind b
+pub unknown : (ends : Bool) (b : ℕ) → among b clearing ≡ false → Other b others → Unknown ≡ byteKind ends b
 unfolding byteKind
-unknown b c n =
+unknown ends b c n =
     let ((((((((((none, n1), n3), n10), n11), n14), n18), n19), n20), n23), n29) = n in
     rw (
       ne-eqb b 1 n1,
@@ -51,12 +69,14 @@ unknown b c n =
     ) refl
 
 -- an operator that clears the stack is neither the escape byte nor a number's first
-pub clears-alone : (b : ℕ) → Clear ≡ byteKind b → (b ≡ 12 → ⊥) × (b ≡ 28 → ⊥)
-unfolding byteKind
-clears-alone b c = (λ e. other 12 (c ∙ ap byteKind e), λ e. other 28 (c ∙ ap byteKind e))
+pub clears-alone : (b : ℕ) → among b clearing ≡ true → (b ≡ 12 → ⊥) × (b ≡ 28 → ⊥)
+clears-alone b c = (λ e. other (at 12 e), λ e. other (at 28 e))
   where
-    other : (k : ℕ) → Clear ≡ Unknown → ⊥
-    other k q = let z : _≡_ {A = ℕ} 0 1 = cc in absurd (omega arith)
+    at : (k : ℕ) → b ≡ k → among k clearing ≡ true
+    at k e = ap (λ (n : ℕ). among n clearing) (sym e) ∙ c
+
+    other : false ≡ true → ⊥
+    other q = let z : _≡_ {A = ℕ} 0 1 = cc in absurd (omega arith)
 
 -- ---- behind the escape byte
 
@@ -78,11 +98,11 @@ module _ (b : ℕ) where
 
 -- ---- either
 
-module _ (p : Operator) where
-  pub escaped-is : p .escaped ≡ true → escapedKind (p .byte) ≡ type2 p
-  unfolding type2
+module _ (ends : Bool) (p : Operator) where
+  pub escaped-is : p .escaped ≡ true → escapedKind (p .byte) ≡ kindBy ends p
+  unfolding kindBy
   escaped-is e = rw e
 
-  pub byte-is : p .escaped ≡ false → byteKind (p .byte) ≡ type2 p
-  unfolding type2
+  pub byte-is : p .escaped ≡ false → byteKind ends (p .byte) ≡ kindBy ends p
+  unfolding kindBy
   byte-is e = rw e

@@ -55,7 +55,7 @@ module _ (cs globals locals : List ℕ) (by : Limits) (levels : ℕ) (stack₀ o
     pub stands : Stands stack out s i
 
   module _ (stack out : List ℕ) (s : State) (i : ℕ) (h : Turn stack out s i) where
-    pub roomy-now : Roomy by stack
+    pub roomy-now : Roomy (by .rules) stack
     roomy-now =
         let r = h .setting .roomy in
         let e = h .same-stack in

@@ -184,10 +184,10 @@ pub record Done (rules : Rules) (stack₁ out₁ : List ℕ) (r : Ran) (x : Run)
   pub on : x .how ≡ back → Repr rules stack₁ out₁ (r .st) (x .state)
 
 -- the code's numbers have room in their types and in the stack
-pub record Roomy (by : Limits) (stack : List ℕ) : Type 0 where
-  pub few-hints : by .rules .hints ≤ 65535
+pub record Roomy (rules : CodeRules) (stack : List ℕ) : Type 0 where
+  pub few-hints : rules .hints ≤ 65535
   pub few-words : length stack ≤ 65535
-  pub operands-fit : by .rules .operands ≤ length stack
+  pub operands-fit : rules .operands ≤ length stack
 
 -- ---- a stretch of tokens without a call
 
@@ -232,7 +232,7 @@ countOf r list = countIn (extent (meant r .width) list)
 
 -- what holds all through a run
 pub record Setting (globals locals : List ℕ) (by : Limits) (stack : List ℕ) : Type 0 where
-  pub roomy : Roomy by stack
+  pub roomy : Roomy (by .rules) stack
   pub global-count : by .globals ≡ countOf (by .rules) globals
   pub local-count : by .locals ≡ countOf (by .rules) locals
 

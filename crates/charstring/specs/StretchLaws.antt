@@ -77,7 +77,7 @@ module _ (cs : List ℕ) (by : Limits) (stack₀ out₀ : List ℕ) (s₀ : Stat
 
   pub record Turn (stack out : List ℕ) (s : State) (i : ℕ) : Type 0 where
     pub same-stack : length stack ≡ length stack₀
-    pub roomy : Roomy by stack₀
+    pub roomy : Roomy (by .rules) stack₀
     pub standing : Standing cs by stack₀ out₀ s₀ i₀
     pub further : i₀ ≤ i
     pub stands : Stands stack out s i

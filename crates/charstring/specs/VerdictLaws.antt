@@ -22,7 +22,7 @@ use Rattle.reading.specs.declared.Refusal.{Refusal}
 use Rattle.charstring.specs.Words.{stackOf}
 use Rattle.charstring.specs.WordsLaws.{begins-none, begins-take}
 use Rattle.charstring.specs.States.{begun}
-use Rattle.charstring.specs.Run.{Begins, tailOf, Repr, howOf, Done, countOf, Setting, Sound, RunsTo}
+use Rattle.charstring.specs.Run.{Begins, tailOf, Repr, howOf, Done, Roomy, countOf, Setting, Sound, RunsTo}
 use Rattle.charstring.specs.declared.state.State.{State}
 use Rattle.charstring.specs.declared.look.Limits.{Limits}
 use Rattle.charstring.specs.declared.stretch.Ending.the-variants.{Back, Ended, Refused}
@@ -46,6 +46,31 @@ begun-is rules stack out =
       bytes = begins-none out;
     }
 
+abbrev pub limitsOf : CodeRules → ℕ → List ℕ → List ℕ → Limits
+limitsOf rules budget globals locals = record { rules = rules; budget = budget; globals = countOf rules globals; locals = countOf rules locals }
+
+module _ (rules : CodeRules) (stack out : List ℕ) (globals locals : List ℕ) (budget : ℕ) (by : Limits) (s : State) (same : s ≡ begun)
+    (limits : by ≡ limitsOf rules budget globals locals) where
+  sound : Sound (limitsOf rules budget globals locals) stack out s
+  unfolding Sound
+  sound = (start, subst (λ (y : State). Repr (meant rules) stack out y start) (sym same) (begun-is (meant rules) stack out))
+
+  -- what a run from the first token asks
+  pub ready : Roomy rules stack → Setting globals locals by stack × Sound by stack out s
+  ready h =
+      subst (λ (l : Limits). Setting globals locals l stack × Sound l stack out s) (sym limits)
+      (record { roomy = h; global-count = refl; local-count = refl }, sound)
+
+  -- the run of the code is the reading's
+  pub done : (cs : List ℕ) (r : Ran) (stack₁ out₁ : List ℕ) → RunsTo cs globals locals by s stack out (rules .levels) r stack₁ out₁
+      → Done (meant rules) stack₁ out₁ r (original (meant rules) cs globals locals budget)
+  unfolding RunsTo reading
+  done cs r stack₁ out₁ runs =
+      subst (λ (l : Limits). RunsTo cs globals locals l s stack out (rules .levels) r stack₁ out₁) limits runs start
+      (subst (λ (y : State). Repr (meant rules) stack out y start) (sym same) (begun-is (meant rules) stack out))
+
+-- ---- a profile's rules
+
 few-hints : (p : Profile) → rulesOf p .hints ≤ 65535
 few-hints Plain = lit≤ tt
 few-hints Strict = lit≤ tt
@@ -54,40 +79,14 @@ few-operands : (p : Profile) → rulesOf p .operands ≤ 48
 few-operands Plain = lit≤ tt
 few-operands Strict = lit≤ tt
 
-abbrev pub limitsOf : CodeRules → ℕ → List ℕ → List ℕ → Limits
-limitsOf rules budget globals locals = record { rules = rules; budget = budget; globals = countOf rules globals; locals = countOf rules locals }
-
-module _ (p : Profile) (rules : CodeRules) (is : meant rules ≡ rulesOf p) (stack out : List ℕ) (full : length stack ≡ 48)
-    (globals locals : List ℕ) (budget : ℕ) (by : Limits) (s : State) (same : s ≡ begun) (limits : by ≡ limitsOf rules budget globals locals) where
-  setting : Setting globals locals (limitsOf rules budget globals locals) stack
-  setting =
-      record {
-        roomy =
-            record {
-              few-hints = subst (λ (n : ℕ). n ≤ 65535) (sym (ap (λ (r : Rules). r .hints) is)) (few-hints p);
-              few-words = omega arith;
-              operands-fit = let k = few-operands p in let e : rules .operands ≡ rulesOf p .operands = ap (λ (r : Rules). r .operands) is in omega arith;
-            };
-        global-count = refl;
-        local-count = refl;
-      }
-
-  sound : Sound (limitsOf rules budget globals locals) stack out s
-  unfolding Sound
-  sound = (start, subst (λ (y : State). Repr (meant rules) stack out y start) (sym same) (begun-is (meant rules) stack out))
-
-  -- what a run from the first token asks
-  pub ready : Setting globals locals by stack × Sound by stack out s
-  ready = subst (λ (l : Limits). Setting globals locals l stack × Sound l stack out s) (sym limits) (setting, sound)
-
-  -- the run of the code is the reading's
-  pub done : (cs : List ℕ) (r : Ran) (stack₁ out₁ : List ℕ) → RunsTo cs globals locals by s stack out (rules .levels) r stack₁ out₁
-      → Done (rulesOf p) stack₁ out₁ r (original (rulesOf p) cs globals locals budget)
-  unfolding RunsTo reading
-  done cs r stack₁ out₁ runs =
-      subst (λ (x : Rules). Done x stack₁ out₁ r (original x cs globals locals budget)) is
-      (subst (λ (l : Limits). RunsTo cs globals locals l s stack out (rules .levels) r stack₁ out₁) limits runs start
-      (subst (λ (y : State). Repr (meant rules) stack out y start) (sym same) (begun-is (meant rules) stack out)))
+-- a stack of 48 is enough for them
+pub roomy-profile : (p : Profile) (rules : CodeRules) → meant rules ≡ rulesOf p → (stack : List ℕ) → length stack ≡ 48 → Roomy rules stack
+roomy-profile p rules is stack full =
+    record {
+      few-hints = let k = few-hints p in let e : rules .hints ≡ rulesOf p .hints = ap (λ (r : Rules). r .hints) is in omega arith;
+      few-words = omega arith;
+      operands-fit = let k = few-operands p in let e : rules .operands ≡ rulesOf p .operands = ap (λ (r : Rules). r .operands) is in omega arith;
+    }
 
 -- ---- the verdict
 

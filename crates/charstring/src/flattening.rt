@@ -19,11 +19,11 @@ ghost use Prim.Native.Nat.{_-_, _≤_, _<_};
 ghost use mathlib.Core.List.{_++_};
 ghost use lib.ListN.{length, take, drop};
 ghost use Rattle.index.specs.Index.{widthOf, extent};
-ghost use Rattle.reading.specs.Rules.{rulesOf};
+ghost use Rattle.reading.specs.Rules.{rulesOf, meant};
 ghost use Rattle.reading.specs.Lists.{countIn};
 ghost use Rattle.reading.specs.Reading.{stopped, tokensBy, original};
 ghost use Rattle.reading.specs.Answers.{numberOf, flatOf, flattened, verdict, outcome, flattening};
-ghost use Rattle.charstring.specs.Run.{Begins, countOf};
+ghost use Rattle.charstring.specs.Run.{Begins, Roomy, countOf};
 
 // Flattens a charstring with its two subroutine lists into the start of out. A refusal changes no
 // byte of out, and acceptance only those that it reports.
@@ -105,16 +105,41 @@ fn draft<'a>(
     ensures { λ r. ⌜ Begins (now (held .exit))
         (flatOf (original (rulesOf profile) (now (cs .entry)) (now (globals .entry)) (now (locals .entry)) budget)) ⌝ }
 {
-    let rules = rules_of(profile);
-    let by = limits_of(rules, budget, globals, locals);
     let mut stack = [0u64; 48];
+    draft_by(
+        cs,
+        globals,
+        locals,
+        rules_of(profile),
+        budget,
+        &mut stack,
+        held,
+    )
+}
+
+// The same by any rules, on a stack with room for their operands.
+fn draft_by<'a>(
+    cs: &'a [u8],
+    globals: &'a [u8],
+    locals: &'a [u8],
+    rules: Rules,
+    budget: u32,
+    stack: &mut [u64],
+    held: &mut [u8],
+) -> Flattened
+    requires { ⌜ Roomy rules (now stack) ⌝ }
+    ensures { λ r. ⌜ flattened r ≡ verdict (original (meant rules) (now (cs .entry)) (now (globals .entry)) (now (locals .entry)) budget) ⌝ }
+    ensures { λ r. ⌜ Begins (now (held .exit))
+        (flatOf (original (meant rules) (now (cs .entry)) (now (globals .entry)) (now (locals .entry)) budget)) ⌝ }
+{
+    let by = limits_of(rules, budget, globals, locals);
     let r = run(
         cs,
         globals,
         locals,
         by,
         at_start(),
-        &mut stack,
+        stack,
         held,
         rules.levels,
     );

@@ -95,7 +95,7 @@ fn ask(n: usize, next: usize, p: Operator, rules: Rules, s: State) -> Request
     requires { ⌜ (s .hints ≤ 65535) × (s .count ≤ 65535) × (next ≤ n) ⌝ }
     ensures { λ r. ⌜ Asked (meant rules) n next p s r ⌝ }
 {
-    match kind_of(p) {
+    match kind_of(p, rules.ends) {
         Kind::Stem => ask_stem(n, next, p, rules, s),
         Kind::Clear => Request::Clears(next, s.hints, p),
         Kind::Mask => ask_mask(n, next, p, rules, s),

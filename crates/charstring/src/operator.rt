@@ -1,24 +1,24 @@
-// What an operator of Type 2 is.
+// What an operator is, with `return` and `endchar` or without them.
 use reading::Kind;
 use reading::Operator;
 use reading::Which;
 ghost use mathlib.Core.Path.{_≡_};
-ghost use mathlib.Core.Bool.{true, false};
-ghost use Rattle.reading.specs.Rules.{among, clearing, type2, byteKind, escapedKind};
-ghost use Rattle.reading.specs.declared.Kind.the-variants.{Clear};
+ghost use mathlib.Core.Bool.{cond};
+ghost use Rattle.reading.specs.Rules.{among, clearing, byteKind, escapedKind, kindBy};
+ghost use Rattle.reading.specs.declared.Kind.the-variants.{Unknown};
 
-pub(crate) fn kind_of(p: Operator) -> Kind
-    ensures { λ r. ⌜ r ≡ type2 p ⌝ }
+pub(crate) fn kind_of(p: Operator, ends: bool) -> Kind
+    ensures { λ r. ⌜ r ≡ kindBy ends p ⌝ }
 {
     if p.escaped {
         return escaped_kind(p.byte);
     }
-    byte_kind(p.byte)
+    byte_kind(p.byte, ends)
 }
 
 // An operator of one byte.
-fn byte_kind(b: u8) -> Kind
-    ensures { λ r. ⌜ r ≡ byteKind b ⌝ }
+fn byte_kind(b: u8, ends: bool) -> Kind
+    ensures { λ r. ⌜ r ≡ byteKind ends b ⌝ }
 {
     if clears(b) {
         return Kind::Clear;
@@ -27,8 +27,8 @@ fn byte_kind(b: u8) -> Kind
         1 => Kind::Stem,
         3 => Kind::Stem,
         10 => Kind::Call(Which::Local),
-        11 => Kind::Return,
-        14 => Kind::End,
+        11 => known(Kind::Return, ends),
+        14 => known(Kind::End, ends),
         18 => Kind::Stem,
         19 => Kind::Mask,
         20 => Kind::Mask,
@@ -38,9 +38,19 @@ fn byte_kind(b: u8) -> Kind
     }
 }
 
+// An operator that the rules have or lack.
+fn known(k: Kind, has: bool) -> Kind
+    ensures { λ r. ⌜ r ≡ cond has k Unknown ⌝ }
+{
+    if has {
+        return k;
+    }
+    Kind::Unknown
+}
+
 // Whether an operator of one byte only clears the stack: a list of keys, which is compiled to the test of a bit.
 pub(crate) fn clears(b: u8) -> bool
-    ensures { λ r. ⌜ (r ≡ true → Clear ≡ byteKind b) × (r ≡ false → among b clearing ≡ false) ⌝ }
+    ensures { λ r. ⌜ r ≡ among b clearing ⌝ }
 {
     match b {
         4 => true,

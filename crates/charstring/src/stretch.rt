@@ -51,7 +51,7 @@ pub(crate) fn stretch(
     stack: &mut [u64],
     out: &mut [u8],
 ) -> Stretched
-    requires { ⌜ Roomy by (now stack) ⌝ }
+    requires { ⌜ Roomy (by .rules) (now stack) ⌝ }
     requires { ⌜ Standing (now cs) by (now stack) (now out) s from ⌝ }
     ensures { λ r. ⌜ StretchesTo (now (cs .entry)) by (now (stack .entry)) (now (out .entry)) s from r (now (stack .exit)) (now (out .exit)) ⌝ }
 {

@@ -1,7 +1,7 @@
 -- Each public function's contract fixes its result: any two that it allows for the same argument are one. Stated over the contracts' own
 -- readings. Assumes nothing.
 use mathlib.Core.Path.{_≡_, refl, sym, ap, _∙_}
-use mathlib.Core.Bool.{cond}
+use mathlib.Core.Bool.{Bool, true, false, cond}
 use lib.Dec.{eqb}
 use borrow.Fn.Kinds.{Dens, resT, endedOf}
 use contract.Lifetimes.{Lfts}
@@ -9,8 +9,11 @@ use denote.Triple.Clauses.{AtExit}
 use Rattle.index.specs.declared.width.Width.{Width}
 use Rattle.index.specs.declared.width.Width.the-variants.{Two, Four}
 use Rattle.index.specs.Index.{widthOf}
-use Rattle.reading.specs.Rules.{Rules, meant}
+use Rattle.reading.specs.Rules.{Rules, byteKind, kindBy, meant}
 use Rattle.reading.specs.declared.Rules.{Rules as CodeRules}
+use Rattle.reading.specs.declared.Operator.{Operator}
+use Rattle.reading.specs.declared.Kind.{Kind}
+use Rattle.reading.specs.declared.Kind.the-variants.{Stem, Clear, Mask, Call, Return, End, Unknown}
 use Rattle.reading.proofs.number_of.Kinds as number-kinds
 use Rattle.reading.proofs.number_of.Reads as number-reads
 use Rattle.reading.proofs.Flattened.number.Kinds as answer-kinds
@@ -36,14 +39,46 @@ unfolding width-back
 width-undo Two = refl
 width-undo Four = refl
 
+-- whether `return`, which is 11, is an operator
+ends-by : Kind → Bool
+ends-by Stem = false
+ends-by Clear = false
+ends-by Mask = false
+ends-by (Call w) = false
+ends-by Return = true
+ends-by End = false
+ends-by Unknown = false
+
+ends-back : (Operator → Kind) → Bool
+ends-back kind = ends-by (kind (record { escaped = false; byte = 11 }))
+
+ends-undo : (t : Bool) → ends-back (kindBy t) ≡ t
+unfolding ends-by ends-back kindBy byteKind
+ends-undo true = refl
+ends-undo false = refl
+
 rules-back : Rules → CodeRules
 rules-back r =
-    record { operands = r .operands; levels = r .levels; hints = r .hints; exact = r .exact; width = cond (eqb (r .width) 2) Two Four }
+    record {
+      operands = r .operands;
+      levels = r .levels;
+      hints = r .hints;
+      ends = ends-back (r .kind);
+      exact = r .exact;
+      width = cond (eqb (r .width) 2) Two Four;
+    }
 
 rules-undo : (r : CodeRules) → rules-back (meant r) ≡ r
 unfolding rules-back width-back
 rules-undo r =
-    ap (λ (w : Width). record { operands = r .operands; levels = r .levels; hints = r .hints; exact = r .exact; width = w }) (width-undo (r .width))
+    λ i. record {
+      operands = r .operands;
+      levels = r .levels;
+      hints = r .hints;
+      ends = ends-undo (r .ends) i;
+      exact = r .exact;
+      width = width-undo (r .width) i;
+    }
 
 pub rules-of-once : (κs : Lfts 0) (a : Dens κs rules-kinds.ps) (r r′ : resT rules-kinds.r κs .Denot)
     (x x′ : AtExit (endedOf 0 rules-kinds.ps rules-kinds.r) κs) → rules-reads.Post κs a r x → rules-reads.Post κs a r′ x′ → r ≡ r′

@@ -1,7 +1,7 @@
--- The starred rows (RULES, "Examples"), proved as one list; a second list for what those rows miss; and a third in which refusals compete.
+-- The starred rows (RULES, "Examples"), proved as one list; and lists of ours: what those rows miss, refusals that compete, a third rule set.
 use mathlib.Core.Path.{_≡_, refl}
 use mathlib.Core.List.{List, [], _∷_, _++_}
-use mathlib.Core.Bool.{Bool, false}
+use mathlib.Core.Bool.{Bool, true, false}
 use Prim.Native.Nat.{ℕ}
 use lib.ListN.{length, drop, replicate}
 use Rattle.number.specs.Answer.{Values, alone, atToken, needingAt, Answer, accepted, refused, Outcome, leaving, into}
@@ -12,7 +12,9 @@ use Rattle.number.specs.Written.{formBy, spell, bytes, bytesBy, spelling}
 use Rattle.number.specs.Call.{bitLength, counts, callIndex, entryOf, biased, callee}
 use Rattle.index.specs.Index.{offset, byLast, bySize, byCount, extent, absent, placeBy, placeIn, place, bytesBy as partBytes, part}
 use Rattle.index.specs.Formed.{entriesFrom, formedBy, formation}
-use Rattle.reading.specs.Rules.{Rules, plain, strict, byteKind, escapedKind, type2}
+use Rattle.index.specs.declared.width.Width.the-variants.{Four}
+use Rattle.reading.specs.Rules.{Rules, byteKind, escapedKind, kindBy, type2, plain, strict, meant}
+use Rattle.reading.specs.declared.Rules.{Rules as CodeRules}
 use Rattle.reading.specs.Lists.{absent as absent-entry, countIn, entryBy, subrsOf, listsOf}
 use Rattle.reading.specs.Tokens.{escapedAt, operatorAt, cutBy, cut}
 use Rattle.reading.specs.Reading.{struck, tokensBy, endsInOperand, admitted, onNumber, onStem, onMask, onEnd, onEntry}
@@ -170,19 +172,49 @@ competing =
     ∷ within plain 48 32 (replicate 48 0x8B ++ (0x1C ∷ 0x00 ∷ [])) none none (refuses 3 (atToken 48))
     ∷ []
 
--- one theorem over the reading's definition for all three lists
-pub rows-hold : All starred × All more × All competing
+-- ---- a third rule set
+
+-- no profile's: a value of the code's record, and the runner's proof is over any such value
+abbrev pub third : CodeRules
+third = record { operands = 513; levels = 10; hints = 96; ends = false; exact = true; width = Four }
+
+pub third-meant : meant third ≡ record { operands = 513; levels = 10; hints = 96; exact = true; width = 4; kind = kindBy false }
+third-meant = refl
+
+abbrev noneWide : List ℕ
+noneWide = 0x00 ∷ 0x00 ∷ 0x00 ∷ 0x00 ∷ []
+
+-- L without its return, its count in four bytes
+abbrev wideL : List ℕ
+wideL = 0x00 ∷ 0x00 ∷ 0x00 ∷ 0x01 ∷ 0x01 ∷ 0x01 ∷ 0x04 ∷ 0x8C ∷ 0x8D ∷ 0x15 ∷ []
+
+abbrev byThird : List ℕ → Expected → Row
+byThird cs e = within (meant third) 1000 64 cs noneWide wideL e
+
+abbrev pub thirds : List Row
+thirds =
+    -- 11 and 14 are no operators, 10 is a local call
+    byThird (0x0B ∷ []) (refuses 6 (atToken 1))
+    ∷ byThird (0x0E ∷ []) (refuses 6 (atToken 1))
+    ∷ byThird (0x20 ∷ 0x0A ∷ 0x05 ∷ []) (gives (0x8C ∷ 0x8D ∷ 0x15 ∷ 0x05 ∷ []) 6)
+    -- 49 operands
+    ∷ byThird (replicate 49 0x8B ++ (0x05 ∷ [])) (gives (replicate 49 0x8B ++ (0x05 ∷ [])) 50)
+    ∷ []
+
+-- one theorem over the reading's definition for all four lists
+pub rows-hold : All starred × All more × All competing × All thirds
 unfolding expectedBy into readyBy outcome listGate flattening
     beAt bytesOf signed unsigned integerRows rowsOf rowOf valueBy numberBy readBy formBy spell bytes bytesBy spelling
     bitLength counts callIndex entryOf biased callee
     offset byLast bySize byCount extent absent placeBy placeIn place partBytes part entriesFrom formedBy formation
-    byteKind escapedKind type2 countIn entryBy subrsOf listsOf escapedAt operatorAt cutBy cut
+    byteKind escapedKind kindBy countIn entryBy subrsOf listsOf escapedAt operatorAt cutBy cut
     struck tokensBy endsInOperand admitted onNumber onStem onMask onEnd onEntry onIndex onCall onOperator onCut onToken
     resume after tokensOf read reading spelled flat
 rows-hold = (
   (refl, (refl, (refl, (refl, (refl, (refl, (refl, (refl, (refl, (refl, (refl, (refl, (refl, (refl, (refl, tt))))))))))))))),
   (refl, (refl, (refl, (refl, (refl, (refl, (refl, (refl, (refl, (refl, (refl, (refl, (refl, (refl, (refl, tt))))))))))))))),
   (refl, (refl, (refl, (refl, (refl, (refl, (refl, (refl, tt)))))))),
+  (refl, (refl, (refl, (refl, tt)))),
 )
 
 -- an entry that is absent, which no well-formed list has, is 9 also where no level is left and the index does not stand last

@@ -29,23 +29,27 @@ among b (c ∷ cs) = eqb b c || among b cs
 abbrev pub clearing : List ℕ
 clearing = 4 ∷ 5 ∷ 6 ∷ 7 ∷ 8 ∷ 21 ∷ 22 ∷ 24 ∷ 25 ∷ 26 ∷ 27 ∷ 30 ∷ 31 ∷ []
 
--- operators of one byte
-unfoldable pub byteKind : ℕ → Kind
-byteKind b =
+-- operators of one byte, with `return` and `endchar` or without them
+unfoldable pub byteKind : Bool → ℕ → Kind
+byteKind ends b =
     cond (among b (1 ∷ 3 ∷ 18 ∷ 23 ∷ [])) Stem
     (cond (among b clearing) Clear
     (cond (among b (19 ∷ 20 ∷ [])) Mask
     (cond (eqb b 10) (Call Local)
     (cond (eqb b 29) (Call Global)
-    (cond (eqb b 11) Return
-    (cond (eqb b 14) End Unknown))))))
+    (cond (eqb b 11) (cond ends Return Unknown)
+    (cond (eqb b 14) (cond ends End Unknown) Unknown))))))
 
 -- operators behind the escape byte: the four flexes
 unfoldable pub escapedKind : ℕ → Kind
 escapedKind b = cond (among b (34 ∷ 35 ∷ 36 ∷ 37 ∷ [])) Clear Unknown
 
-unfoldable pub type2 : Operator → Kind
-type2 p = cond (p .escaped) (escapedKind (p .byte)) (byteKind (p .byte))
+unfoldable pub kindBy : Bool → Operator → Kind
+kindBy ends p = cond (p .escaped) (escapedKind (p .byte)) (byteKind ends (p .byte))
+
+-- Type 2 has both
+abbrev pub type2 : Operator → Kind
+type2 = kindBy true
 
 abbrev pub plain : Rules
 plain = record { operands = 48; levels = 63; hints = 65535; exact = false; width = 2; kind = type2 }
@@ -61,4 +65,11 @@ rulesOf Strict = strict
 -- the rules that the code's record stands for
 abbrev pub meant : CodeRules → Rules
 meant r =
-    record { operands = r .operands; levels = r .levels; hints = r .hints; exact = r .exact; width = widthOf (r .width); kind = type2 }
+    record {
+      operands = r .operands;
+      levels = r .levels;
+      hints = r .hints;
+      exact = r .exact;
+      width = widthOf (r .width);
+      kind = kindBy (r .ends);
+    }

@@ -40,7 +40,7 @@ pub enum Profile {
     Strict,
 }
 
-// All that profiles differ in, as the code has it: the definition's `Rules`.
+// All that rule sets differ in, as the code has it: the definition's `Rules`.
 pub struct Rules {
     // How many operands may wait on the stack.
     pub operands: usize,
@@ -48,6 +48,8 @@ pub struct Rules {
     pub levels: u32,
     // How many stem hints there may be.
     pub hints: usize,
+    // Whether `return` and `endchar` are operators: in Type 2 they are.
+    pub ends: bool,
     // Whether a Fixed index must be whole exactly, or as f32 rounds it.
     pub exact: bool,
     // How many bytes the count of a list has.
@@ -63,6 +65,7 @@ pub fn rules_of(profile: Profile) -> Rules
             operands: 48,
             levels: 63,
             hints: 65535,
+            ends: true,
             exact: false,
             width: Width::Two,
         },
@@ -70,6 +73,7 @@ pub fn rules_of(profile: Profile) -> Rules
             operands: 48,
             levels: 10,
             hints: 96,
+            ends: true,
             exact: true,
             width: Width::Two,
         },

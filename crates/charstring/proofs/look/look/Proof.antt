@@ -65,7 +65,7 @@ add-t23 c = search needs
 returns-4 : tie.Need-returns-4
 returns-4 c =
     let g = c .before .before .before .before .before .before .before .before .before .args in
-    clear-looked (g .cs .now) (g .i) (omega arith) (c .before .clears .ensures .0 (search needs)) (omega arith)
+    clear-looked (g .cs .now) (g .i) (omega arith) (sym (c .before .clears .ensures) ∙ search needs) (omega arith)
     (g .by .rules) (g .by .budget) (g .s) (omega arith)
 
 look-at-requires : tie.Need-look-at-requires

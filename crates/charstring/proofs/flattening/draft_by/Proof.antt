@@ -1,0 +1,98 @@
+use Rattle.reading.specs.Rules.{meant}
+use Rattle.reading.specs.Reading.{original}
+use Rattle.reading.specs.BudgetLaws.{tokens-budget}
+use Rattle.charstring.specs.Run.{Done}
+use Rattle.charstring.specs.VerdictLaws.{ready, done, came-back, all-ended, was-stopped, few-tokens}
+use borrow.Author.Needs.{needs}
+use Rattle.charstring.proofs.flattening.draft_by.Statement.{statement}
+use Rattle.charstring.proofs.flattening.draft_by.Tie as tie
+
+-- the run is the reading's
+ran : (c : tie.After-run)
+    → let args = c .before .before .before .before .before .before .before .before .before .before .args in
+    Done (meant (args .rules)) (c .run .last .1 .1 .1 .1 .1 .0) (c .run .last .1 .1 .1 .1 .1 .1 .0)
+    (c .run .result) (original (meant (args .rules)) (args .cs .now) (args .globals .now) (args .locals .now) (args .budget))
+ran c =
+    let at-start = c .before .before .before in
+    let at-limits-of = at-start .before in
+    let args = at-limits-of .before .before .before .before .before .before .args in
+    done (args .rules) _ _ _ _ (args .budget) _ _ (at-start .at-start .ensures) (at-limits-of .limits-of .ensures)
+    _ _ _ _ (c .run .ensures)
+
+limits-of-requires : tie.Need-limits-of-requires
+limits-of-requires c κs = search needs
+
+at-start-requires : tie.Need-at-start-requires
+at-start-requires c κs = search needs
+
+run-requires : tie.Need-run-requires
+run-requires c κs =
+    let at-start = c .before .before in
+    let at-limits-of = at-start .before in
+    let start = at-limits-of .before .before .before .before .before .before in
+    ready (start .args .rules) _ _ _ _ (start .args .budget) _ _ (at-start .at-start .ensures) (at-limits-of .limits-of .ensures) (start .pre)
+
+enum-told : tie.Need-enum-told
+enum-told c = search needs
+
+enum-told-2 : tie.Need-enum-told-2
+enum-told-2 c = search needs
+
+enum-known-how : tie.Need-enum-known-how
+enum-known-how c = search needs
+
+counted-requires : tie.Need-counted-requires
+counted-requires c κs =
+    let at-run = c .before .before .before .before .before .before .before .before in
+    let start = at-run .before .before .before .before .before .before .before .before .before .before in
+    few-tokens _ _ _ _ _ (ran at-run) _ (c .before .how .given .1) (start .args .budget) (tokens-budget _ _ _ _) (start .fits .budget .fits)
+
+same-length : tie.Need-same-length
+same-length c = search needs
+
+same-length-2 : tie.Need-same-length-2
+same-length-2 c = search needs
+
+returns : tie.Need-returns
+returns c = let d = ran (c .before .before .before .before .before .before .before) in (came-back _ _ _ _ _ d (c .enum-told .given .1), d .bytes)
+
+same-length-3 : tie.Need-same-length-3
+same-length-3 c = search needs
+
+same-length-4 : tie.Need-same-length-4
+same-length-4 c = search needs
+
+returns-2 : tie.Need-returns-2
+returns-2 c = let d = ran (c .before .before .before .before .before .before .before) in (all-ended _ _ _ _ _ d (c .enum-told2 .given .1), d .bytes)
+
+same-length-5 : tie.Need-same-length-5
+same-length-5 c = search needs
+
+same-length-6 : tie.Need-same-length-6
+same-length-6 c = search needs
+
+returns-3 : tie.Need-returns-3
+returns-3 c =
+    let d = ran (c .before .before .before .before .before .before .before .before .before) in
+    (was-stopped _ _ _ _ _ d _ (c .before .before .how .given .1) _ (c .counted .ensures), d .bytes)
+
+pub draft-by-spec : {M : Type 1} → statement M
+draft-by-spec =
+    tie.close
+    (tie.spec
+    limits-of-requires
+    at-start-requires
+    run-requires
+    enum-told
+    enum-told-2
+    enum-known-how
+    counted-requires
+    same-length
+    same-length-2
+    returns
+    same-length-3
+    same-length-4
+    returns-2
+    same-length-5
+    same-length-6
+    returns-3)
