@@ -3,11 +3,14 @@
 
 mod hand;
 mod hostile;
+// the Rust's side is compiled here, where it may be inlined
+#[path = "../tools/oracle/source/flattening.rs"]
+mod lists;
 mod ours;
 mod timing;
 
+use lists::Lists;
 use oracle::fonts::{self, Font, Glyph};
-use oracle::source::flattening::Lists;
 use ours::ours;
 use std::hint::black_box;
 use std::path::PathBuf;
