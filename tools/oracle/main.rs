@@ -1,5 +1,7 @@
 //! The driver: the stored list, the comparison, and the seeds of the fuzz target.
 
+use oracle::operation::Operation;
+use oracle::operations::flatten;
 use oracle::sections::Run;
 use oracle::{faults, fixed, fonts, fuzzed, list, random};
 use std::path::PathBuf;
@@ -15,7 +17,7 @@ usage: driver list FOLDER                                        the stored list
        driver fault FAULT=N                                      what a fault does, where there are so many
        driver random SECONDS=N [SEED=N] [FAULT=N]                of the sample, the random ones alone, with a fault before the library";
 
-/// How many random charstrings a full run takes, and how often each answer has to come.
+/// How many random charstrings a full run takes, and how often each answer of theirs has to come.
 const CASES: u64 = 10_000_000;
 const LEAST: u64 = 1000;
 
@@ -108,8 +110,8 @@ fn everything(options: &Options) -> Result<(), Failure> {
     let mut start = Instant::now();
     let mut seconds = || std::mem::replace(&mut start, Instant::now()).elapsed().as_secs();
 
-    let mut all = run.listed().map_err(Failure::Difference)?;
-    all.report(&format!("listed, {} s", seconds()));
+    let listed = run.listed().map_err(Failure::Difference)?;
+    listed.report(&format!("listed, {} s", seconds()));
     let most = if full { usize::MAX } else { SAMPLED_GLYPHS };
     let (glyphs, fonts) = run.fonts(&options.folders, most).map_err(Failure::Difference)?;
     glyphs.report(&format!("glyphs of {fonts} fonts, {} s", seconds()));
@@ -121,12 +123,15 @@ fn everything(options: &Options) -> Result<(), Failure> {
     }
     let strings = run.strings().map_err(Failure::Difference)?;
     strings.report(&format!("strings, {} s", seconds()));
-    let random = run.random(options.cases.unwrap_or(CASES)).map_err(Failure::Difference)?;
-    random.report(&format!("random, {} s", seconds()));
+    let mut all = run.random(options.cases.unwrap_or(CASES)).map_err(Failure::Difference)?;
+    all.report(&format!("random, {} s", seconds()));
     println!("{HELD}");
 
-    all.add(&random);
-    let lacks = if full { random.lacks(LEAST) } else { all.lacks(1) };
+    if !full {
+        all.add(&listed);
+    }
+    let often = |operation: &Operation| full && operation.number == flatten::OPERATION.number;
+    let lacks = all.lacks(|operation| if often(operation) { LEAST } else { 1 });
     if lacks.is_empty() {
         Ok(())
     } else {

@@ -1,6 +1,6 @@
 //! How often each operation gave each answer, and what the accepted charstrings had in them.
 
-use crate::operation::{Call, Outcome, Owed};
+use crate::operation::{Call, Operation, Outcome, Owed};
 use crate::operations::OPERATIONS;
 use std::collections::BTreeMap;
 
@@ -83,15 +83,14 @@ impl Tally {
         );
     }
 
-    /// The answers that an operation can give and did not, so often at least, to a first call.
-    pub fn lacks(&self, least: u64) -> Vec<String> {
+    /// The answers that came less often than an operation is to give them.
+    pub fn lacks(&self, least: impl Fn(&Operation) -> u64) -> Vec<String> {
         let mut lacks = Vec::new();
         for operation in OPERATIONS {
             for &(answer, _) in operation.answers {
-                let came = self.cases.get(&(operation.number, answer)).copied().unwrap_or(0);
-                if came < least {
-                    let name = operation.name;
-                    lacks.push(format!("{name} answered {answer} {came} times, not {least}"));
+                let came = self.calls.get(&(operation.number, answer)).copied().unwrap_or(0);
+                if came < least(operation) {
+                    lacks.push(format!("{} answered {answer} {came} times only", operation.name));
                 }
             }
         }
