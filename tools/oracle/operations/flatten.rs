@@ -57,24 +57,59 @@ pub static OPERATION: Operation = Operation {
     more: || flattening::more().into_iter().map(flatten).collect(),
     random,
     faults: &[
-        Fault { name: "one token too many is told", plant: token_too_many },
-        Fault { name: "one token too many is told of more than 20", plant: token_of_many },
-        Fault { name: "a refusal of the run sets the length", plant: length_on_refusal },
-        Fault { name: "refusal 2 sets the tokens", plant: tokens_on_bad_list },
-        Fault { name: "9 is told as 10", plant: nine_as_ten },
-        Fault { name: "12 is told as 6", plant: twelve_as_six },
-        Fault { name: "13 where the room is just enough", plant: room_one_less },
-        Fault { name: "3 where the budget is just enough", plant: budget_one_less },
-        Fault { name: "strict is taken for plain", plant: always_plain },
+        Fault {
+            name: "one token too many is told",
+            plant: |call, lent| after(call, lent, |answer| answer == 0, |lent| add_token(lent, 0)),
+        },
+        Fault {
+            name: "one token too many is told of more than 20",
+            plant: |call, lent| after(call, lent, |answer| answer == 0, |lent| add_token(lent, 20)),
+        },
+        Fault {
+            name: "a refusal of the run sets the length",
+            plant: |call, lent| {
+                after(call, lent, |answer| (3..=12).contains(&answer), |lent| set(lent, 0, 0usize))
+            },
+        },
+        Fault {
+            name: "refusal 2 sets the tokens",
+            plant: |call, lent| after(call, lent, |answer| answer == 2, |lent| set(lent, 1, 0u32)),
+        },
+        Fault {
+            name: "9 is told as 10",
+            plant: |call, lent| match library(call, lent) {
+                9 => 10,
+                answer => answer,
+            },
+        },
+        Fault {
+            name: "12 is told as 6",
+            plant: |call, lent| match library(call, lent) {
+                12 => 6,
+                answer => answer,
+            },
+        },
+        Fault {
+            name: "13 where the room is just enough",
+            plant: |call, lent| flatten_by(lent, call.profile, call.budget, lent.room.saturating_sub(1)),
+        },
+        Fault {
+            name: "3 where the budget is just enough",
+            plant: |call, lent| flatten_by(lent, call.profile, call.budget.saturating_sub(1), lent.room),
+        },
+        Fault {
+            name: "strict is taken for plain",
+            plant: |call, lent| flatten_by(lent, 0, call.budget, lent.room),
+        },
     ],
     ..BARE
 };
 
 fn invoke(call: &Call, lent: &Lent) -> u32 {
-    flatten_by(call, lent, call.profile, call.budget, lent.room)
+    flatten_by(lent, call.profile, call.budget, lent.room)
 }
 
-fn flatten_by(_: &Call, lent: &Lent, profile: u32, budget: u32, room: usize) -> u32 {
+fn flatten_by(lent: &Lent, profile: u32, budget: u32, room: usize) -> u32 {
     let [(cs, cs_len), (globals, globals_len), (locals, locals_len)] = lent.slices;
     let (out, length, tokens) = (lent.out, lent.place(0), lent.place(1));
     unsafe {
@@ -184,68 +219,20 @@ fn budgets<'a>(call: &'a Call<'a>, outcome: &'a Outcome) -> Vec<Next<'a>> {
     next
 }
 
+/// The library's answer; and then something is done where it is such a one.
+fn after(call: &Call, lent: &Lent, such: fn(u32) -> bool, harm: fn(&Lent)) -> u32 {
+    let answer = library(call, lent);
+    if such(answer) {
+        harm(lent);
+    }
+    answer
+}
+
 fn set<T>(lent: &Lent, which: usize, value: T) {
     unsafe { *lent.place(which) = value };
 }
 
-fn tokens(lent: &Lent) -> u32 {
-    unsafe { *lent.place(1) }
-}
-
-fn token_too_many(call: &Call, lent: &Lent) -> u32 {
-    let answer = library(call, lent);
-    if answer == 0 {
-        set(lent, 1, tokens(lent) + 1);
-    }
-    answer
-}
-
-fn token_of_many(call: &Call, lent: &Lent) -> u32 {
-    let answer = library(call, lent);
-    if answer == 0 && tokens(lent) > 20 {
-        set(lent, 1, tokens(lent) + 1);
-    }
-    answer
-}
-
-fn length_on_refusal(call: &Call, lent: &Lent) -> u32 {
-    let answer = library(call, lent);
-    if (3..=12).contains(&answer) {
-        set(lent, 0, 0usize);
-    }
-    answer
-}
-
-fn tokens_on_bad_list(call: &Call, lent: &Lent) -> u32 {
-    let answer = library(call, lent);
-    if answer == 2 {
-        set(lent, 1, 0u32);
-    }
-    answer
-}
-
-fn nine_as_ten(call: &Call, lent: &Lent) -> u32 {
-    match library(call, lent) {
-        9 => 10,
-        answer => answer,
-    }
-}
-
-fn twelve_as_six(call: &Call, lent: &Lent) -> u32 {
-    match library(call, lent) {
-        12 => 6,
-        answer => answer,
-    }
-}
-
-fn room_one_less(call: &Call, lent: &Lent) -> u32 {
-    flatten_by(call, lent, call.profile, call.budget, lent.room.saturating_sub(1))
-}
-
-fn budget_one_less(call: &Call, lent: &Lent) -> u32 {
-    flatten_by(call, lent, call.profile, call.budget.saturating_sub(1), lent.room)
-}
-
-fn always_plain(call: &Call, lent: &Lent) -> u32 {
-    flatten_by(call, lent, 0, call.budget, lent.room)
+fn add_token(lent: &Lent, above: u32) {
+    let tokens: u32 = unsafe { *lent.place(1) };
+    set(lent, 1, tokens + u32::from(tokens > above));
 }
