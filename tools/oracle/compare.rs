@@ -7,6 +7,8 @@ use crate::tally::Tally;
 pub struct Comparison {
     lender: Lender,
     side: Side,
+    /// Which of the calls that follow have their turn, where not all do.
+    turn: usize,
 }
 
 /// A call on which the sides differ, and how.
@@ -17,16 +19,23 @@ pub struct Difference {
 
 impl Default for Comparison {
     fn default() -> Self {
-        Comparison { lender: Lender::new(), side: Side::High }
+        Comparison { lender: Lender::new(), side: Side::High, turn: 0 }
     }
 }
 
 impl Comparison {
-    /// The call, and each that follows from it.
-    pub fn look(&mut self, call: &Call, tally: &mut Tally) -> Result<Outcome, Difference> {
+    /// The call, and of those that follow from it one in `every`, by turns.
+    pub fn look(
+        &mut self,
+        call: &Call,
+        every: usize,
+        tally: &mut Tally,
+    ) -> Result<Outcome, Difference> {
         let (first, owed) = self.one(call)?;
         tally.case(call, &first, &owed);
-        for next in (call.operation.next)(call, &first) {
+        self.turn += 1;
+        let following = (call.operation.next)(call, &first);
+        for next in following.into_iter().skip(self.turn % every).step_by(every) {
             let (second, owed) = self.one(&next.call)?;
             tally.call(&next.call, &second, &owed);
             if !next.must.holds(&first, &second) {

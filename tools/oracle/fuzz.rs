@@ -44,7 +44,7 @@ pub unsafe extern "C" fn LLVMFuzzerTestOneInput(data: *const u8, size: usize) ->
     let call = fuzzed::call(bytes);
     let mut state = STATE.lock().expect("one thread fuzzes");
     let (comparison, tally) = state.get_or_insert_default();
-    match comparison.both_sides(&call).and_then(|()| comparison.look(&call, tally)) {
+    match comparison.both_sides(&call).and_then(|()| comparison.look(&call, 1, tally)) {
         Ok(outcome) => reached(&call, &outcome),
         Err(Difference { call, why }) => {
             eprint!("fuzz: FOUND\n{}{why}", call.described());

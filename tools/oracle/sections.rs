@@ -53,21 +53,21 @@ struct Part<'a> {
 }
 
 impl Part<'_> {
-    fn look(&mut self, call: &Call) -> Result<(), String> {
+    fn look(&mut self, call: &Call, every: usize) -> Result<(), String> {
         self.done.add(1);
         self.count += 1;
         let Thread { comparison, tally, .. } = &mut *self.thread;
-        comparison.look(call, tally).map(drop).map_err(|difference| {
+        comparison.look(call, every, tally).map(drop).map_err(|difference| {
             let described = described(comparison, difference);
             format!("difference in {}, input {}:\n{described}", self.name, self.count)
         })
     }
 
     /// With all the budget and room that it needs.
-    fn flatten(&mut self, slices: [&[u8]; 3], budget: u32) -> Result<(), String> {
+    fn flatten(&mut self, slices: [&[u8]; 3], budget: u32, every: usize) -> Result<(), String> {
         let slices = slices.map(Cow::Borrowed);
         let room = 8 * slices[0].len() + 64;
-        self.look(&Call { budget, room, slices, ..Call::of(&flatten::OPERATION) })
+        self.look(&Call { budget, room, slices, ..Call::of(&flatten::OPERATION) }, every)
     }
 }
 
@@ -99,7 +99,7 @@ impl Run {
         let work = Work { name: "listed", parts: parts.len() as u64, until: None };
         let threads = work.run(|number, thread, done| {
             let mut part = self.part(work.name, number, thread, done);
-            parts[number as usize].iter().try_for_each(|call| part.look(call))
+            parts[number as usize].iter().try_for_each(|call| part.look(call, 1))
         })?;
         Ok(sum(&threads))
     }
@@ -112,7 +112,7 @@ impl Run {
             let mut part = self.part(work.name, number, thread, done);
             let locals = if number % 2 == 0 { NONE } else { L };
             let first = (number / 2).checked_sub(1).map(|first| first as u8);
-            strings(first, |string| part.flatten([string, NONE, locals], AMPLE))
+            strings(first, |string| part.flatten([string, NONE, locals], AMPLE, 1))
         })?;
         Ok(sum(&threads))
     }
@@ -130,12 +130,12 @@ impl Run {
                 if i >= STRUCTURED {
                     case = damaged(case, &mut part.random);
                 }
-                part.flatten([&case.charstring, &case.globals, &case.locals], AMPLE)?;
+                part.flatten([&case.charstring, &case.globals, &case.locals], AMPLE, 1)?;
             }
             for operation in OPERATIONS {
                 for _ in 0..OF_EACH {
                     let call = (operation.random)(&mut part.random);
-                    part.look(&call)?;
+                    part.look(&call, 1)?;
                 }
             }
             Ok(())
@@ -164,7 +164,8 @@ impl Run {
 fn of_font(part: &mut Part, font: &Font, most: usize) -> Result<(), String> {
     let step = font.glyphs().count().div_ceil(most).max(1);
     for glyph in font.glyphs().step_by(step) {
-        part.flatten([glyph.charstring, glyph.globals, glyph.locals], LONG)?;
+        // a font's lists are long, and are lent anew at each call: so of what follows, a third
+        part.flatten([glyph.charstring, glyph.globals, glyph.locals], LONG, 3)?;
     }
     Ok(())
 }
