@@ -16,8 +16,8 @@
  *
  * There is no state, nothing is allocated, and nothing is called but memcpy and memset; so any threads may
  * call at once, each with its own `out` and places. ighzamrel_flatten goes one call deeper for each call of
- * the charstring: at 64 strings deep, the most in plain, it used less than 40 KiB of stack, at 11, the most
- * in strict, less than 10 KiB, and each other function less than 200 bytes (x86-64; docs/BENCHMARKS.md says
+ * the charstring: at 64 strings deep, the most in plain, it used less than 44 KiB of stack, at 11, the most
+ * in strict, less than 11 KiB, and each other function less than 200 bytes (x86-64; docs/BENCHMARKS.md says
  * how that was measured).
  */
 #ifndef IGHZAMREL_H

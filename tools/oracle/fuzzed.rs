@@ -180,8 +180,8 @@ fn seed(call: &Call) -> Option<Vec<u8>> {
     Some([&seed[..], last, middle, first].concat())
 }
 
-/// Writes inputs to start from: each operation's listed calls that are short, one of so many; those that may be long; and an
-/// INDEX of most elements. What the bytes add up to is made so by the third of the head.
+/// Writes inputs to start from: some of each operation's listed calls that are short, and the long ones, whose bytes add up as
+/// `may_be_long` asks by the third of the head.
 pub fn write_seeds(folder: &str) -> Result<(), String> {
     const MOST: usize = 300;
     const OF_EACH: usize = 250;

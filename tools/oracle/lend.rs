@@ -1,6 +1,6 @@
 //! What is lent to a C function: each slice and the room stand flush against a page that nothing may touch, so that code
-//! without instrumentation faults at the first byte that it reads or writes too far; the room holds a pattern, which goes
-//! on on its other side, and so does each place. At every call it is looked at what was left.
+//! without instrumentation faults at the first byte that it reads or writes too far. The room, the bytes on its other side
+//! and each place hold a pattern. After every call all of it is looked at.
 
 use crate::operation::{
     library, Argument, Call, Fault, Found, Lent, Operation, Outcome, Place, Side, PLACES,

@@ -1,4 +1,4 @@
-//! The driver: the stored list, the comparison, and the seeds of the fuzz target.
+//! The driver: the stored list, the comparison, all Fixed values, planted faults, and the fuzz target's seeds.
 
 use oracle::operation::Operation;
 use oracle::operations::flatten;

@@ -11,7 +11,7 @@ pub const PLACES: usize = 4;
 pub struct Operation {
     /// Its number in the program `cases`.
     pub number: u8,
-    /// The C function's, without the library's. Those that are none are exported for the comparison by `tools/tried`.
+    /// The C function's, without the library's prefix. `tools/tried` exports those that are no C functions.
     pub name: &'static str,
     pub arguments: &'static [Argument],
     pub places: &'static [Place],
@@ -28,7 +28,7 @@ pub struct Operation {
     /// Inputs for the stored list, and how many random ones it has besides.
     pub listed: fn() -> Vec<Call<'static>>,
     pub sample: usize,
-    /// Inputs whose record is none: a kind, a profile or a room that there is not.
+    /// Inputs that make no record: a kind, a profile or a room out of range.
     pub beyond: fn() -> Vec<Call<'static>>,
     /// Inputs that are too big or too many to store.
     pub more: fn() -> Vec<Call<'static>>,

@@ -33,7 +33,7 @@ impl Call<'_> {
         record
     }
 
-    /// The line that is owed for the call's record; a kind, a profile or a room that there is not makes it none.
+    /// The line that is owed for the call's record; a kind, a profile, a room or a length out of range makes it no record.
     pub fn line(&self) -> Result<String, String> {
         if self.kind > 1 || self.profile > 1 || self.room > MOST || self.record().len() > MOST {
             return Ok(UNREADABLE.into());

@@ -63,7 +63,7 @@ impl Part<'_> {
         })
     }
 
-    /// With all the budget and room that it needs.
+    /// Into room that mostly is enough; where it is not, a call with just enough follows from 13.
     fn flatten(&mut self, slices: [&[u8]; 3], budget: u32, every: usize) -> Result<(), String> {
         let slices = slices.map(Cow::Borrowed);
         let room = 8 * slices[0].len() + 64;

@@ -1,5 +1,5 @@
 //! A root for the files of subsetter that our port follows. It stands in for their own
-//! roots, which also want files that were not handed on (glyf, head, hmtx and others).
+//! roots, which also want files that are no part of that (glyf, head, hmtx and others).
 //! Every other file is the published one, unchanged; the build lays them beside this one.
 
 pub mod read;

@@ -14,7 +14,7 @@ pub fn listed() -> Vec<Given> {
     asked
 }
 
-/// A profile and a room that there is not.
+/// A profile and a room out of range.
 pub fn beyond(most: usize) -> Vec<Given> {
     let case = Case::new(&[0x0E], NONE, NONE);
     vec![case.ample(2), case.asked(PLAIN, 1, most + 1)]
