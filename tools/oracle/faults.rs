@@ -92,6 +92,8 @@ fn input_changed(call: &Call, lent: &Lent) -> u32 {
 
 fn read_behind(call: &Call, lent: &Lent) -> u32 {
     let (bytes, size) = lent.slices[0];
-    let behind = if size > 0 { unsafe { bytes.add(size).read_volatile() } } else { 0 };
-    library(call, lent) + u32::from(behind & 0)
+    if size > 0 {
+        unsafe { bytes.add(size).read_volatile() };
+    }
+    library(call, lent)
 }
