@@ -9,7 +9,7 @@
 //!     11..14  a number
 //!     15..18  how many bytes behind the head are the last slice, and the one before it; the first slice is all that is left
 
-use crate::inputs::case::list;
+use crate::inputs::case::NONE;
 use crate::operation::{Argument, Call};
 use crate::operations::OPERATIONS;
 use std::borrow::Cow;
@@ -114,8 +114,9 @@ fn fill(call: &mut Call, slices: [&[u8]; 3], flags: u8, long: bool) {
     }
 }
 
-/// A well-formed INDEX. The first byte says how many entries there are at least: around each count at which the bias changes;
-/// and whether the data begin late. A byte says the length of each entry that is given; empty ones follow.
+/// A well-formed INDEX. The first byte says its least offset size, how many bytes of data stand before the first entry, and how
+/// many entries there are at least: around each count at which the bias changes. A byte says the length of each entry that is
+/// given; empty ones follow.
 fn built(from: &[u8], long: bool) -> Vec<u8> {
     let mut left = from;
     let shape = cut(&mut left, 1).first().copied().unwrap_or(0);
@@ -130,13 +131,20 @@ fn built(from: &[u8], long: bool) -> Vec<u8> {
         _ => 1_233 + usize::from(shape & 15),
     };
     entries.resize(entries.len().max(least), &[]);
-    let mut index = list(&entries);
-    if shape & 0x10 != 0 && index.len() > 3 && index[2] == 1 && index[3..].len() > entries.len() + 1
-    {
-        // the first entry begins a byte later, and is so much shorter
-        index[3] += u8::from(index[3] < index[4]);
+    let before = usize::from(shape >> 2 & 3);
+    let last = 1 + before + entries.iter().map(|entry| entry.len()).sum::<usize>();
+    let size = (usize::from(shape & 3) + 1).max(last.ilog2() as usize / 8 + 1);
+    if entries.is_empty() {
+        return NONE.to_vec();
     }
-    index
+    let mut index = [&(entries.len() as u16).to_be_bytes()[..], &[size as u8]].concat();
+    let mut offset = before as u32 + 1;
+    index.extend(&offset.to_be_bytes()[4 - size..]);
+    for entry in &entries {
+        offset += entry.len() as u32;
+        index.extend(&offset.to_be_bytes()[4 - size..]);
+    }
+    [&index[..], &[0x0E; 3][..before], &entries.concat()].concat()
 }
 
 /// The lengths that an INDEX is written from, as words.
