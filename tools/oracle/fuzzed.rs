@@ -195,8 +195,11 @@ pub fn write_seeds(folder: &str) -> Result<(), String> {
     const OF_EACH: usize = 250;
     let mut seeds: Vec<Vec<u8>> = Vec::new();
     for operation in OPERATIONS {
-        let short: Vec<_> =
-            (operation.listed)().iter().filter_map(seed).filter(|seed| seed.len() < MOST).collect();
+        let short: Vec<_> = (operation.listed)(operation)
+            .iter()
+            .filter_map(seed)
+            .filter(|seed| seed.len() < MOST)
+            .collect();
         seeds.extend(short.iter().step_by(short.len().div_ceil(OF_EACH).max(1)).cloned());
     }
     seeds.extend(long_seeds());

@@ -40,7 +40,7 @@ pub fn write(folder: &str) -> Result<(), String> {
     }
     // a byte too few, all but one too few and one too many; the sound one between them must still be read
     for operation in OPERATIONS {
-        let call = (operation.listed)().swap_remove(0);
+        let call = (operation.listed)(operation).swap_remove(0);
         let record = call.record();
         put(&record[..record.len() - 1], UNREADABLE);
         put(&record[..1], UNREADABLE);
@@ -66,8 +66,8 @@ fn sound() -> Vec<Call<'static>> {
     let mut random = Random::new(SEED);
     let mut calls = Vec::new();
     for operation in OPERATIONS {
-        calls.extend((operation.listed)());
-        let any = std::iter::repeat_with(|| (operation.random)(&mut random));
+        calls.extend((operation.listed)(operation));
+        let any = std::iter::repeat_with(|| (operation.random)(operation, &mut random));
         calls.extend(any.filter(|call| call.record().len() <= STORED).take(operation.sample));
         calls.extend((operation.beyond)());
     }

@@ -26,13 +26,13 @@ pub struct Operation {
     /// Calls that the outcome of this one says something about.
     pub next: for<'a> fn(&'a Call<'a>, &'a Outcome) -> Vec<Next<'a>>,
     /// Inputs for the stored list, and how many random ones it has besides.
-    pub listed: fn() -> Vec<Call<'static>>,
+    pub listed: fn(&'static Operation) -> Vec<Call<'static>>,
     pub sample: usize,
     /// Inputs that make no record: a kind, a profile or a room out of range.
     pub beyond: fn() -> Vec<Call<'static>>,
     /// Inputs that are too big or too many to store.
-    pub more: fn() -> Vec<Call<'static>>,
-    pub random: fn(&mut Random) -> Call<'static>,
+    pub more: fn(&'static Operation) -> Vec<Call<'static>>,
+    pub random: fn(&'static Operation, &mut Random) -> Call<'static>,
     /// Faults that only this operation can have.
     pub faults: &'static [Fault],
 }
@@ -92,14 +92,13 @@ pub const BARE: Operation = Operation {
     owed: |_| Err("no rule is given".into()),
     invoke: |_, _| u32::MAX,
     next: |_, _| Vec::new(),
-    listed: Vec::new,
+    listed: |_| Vec::new(),
     sample: 500,
     beyond: Vec::new,
-    more: Vec::new,
-    random: |_| Call::of(&BARE_ONE),
+    more: |_| Vec::new(),
+    random: |operation, _| Call::of(operation),
     faults: &[],
 };
-static BARE_ONE: Operation = BARE;
 
 /// An argument, in a record's order; the slices by their place among them.
 #[derive(Clone, Copy, PartialEq)]

@@ -93,7 +93,9 @@ impl Run {
     pub fn listed(&self) -> Result<Tally, String> {
         let calls: Vec<Call> = OPERATIONS
             .iter()
-            .flat_map(|operation| [(operation.listed)(), (operation.more)()].concat())
+            .flat_map(|operation| {
+                [(operation.listed)(operation), (operation.more)(operation)].concat()
+            })
             .collect();
         let parts: Vec<&[Call]> = calls.chunks(5_000).collect();
         let work = Work { name: "listed", parts: parts.len() as u64, until: None };
@@ -134,7 +136,7 @@ impl Run {
             }
             for operation in OPERATIONS {
                 for _ in 0..OF_EACH {
-                    let call = (operation.random)(&mut part.random);
+                    let call = (operation.random)(operation, &mut part.random);
                     part.look(&call, 1)?;
                 }
             }

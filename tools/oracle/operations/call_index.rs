@@ -15,10 +15,10 @@ pub static OPERATION: Operation = Operation {
     answers: &[(0, 1), (7, 0)],
     owed,
     invoke,
-    listed,
+    listed: |_| listed(),
     sample: 2000,
     beyond: || vec![index(2, 0, 0), index(1, 0, 2)],
-    random: |random| {
+    random: |_, random| {
         let (kind, value) = any_operand(random);
         index(kind, value, random.within(0, 1) as u32)
     },

@@ -17,10 +17,10 @@ pub static OPERATION: Operation = Operation {
     answers: &[(0, 1), (7, 0), (9, 0)],
     owed,
     invoke,
-    listed,
+    listed: |_| listed(),
     sample: 2000,
     beyond: || vec![callee(2, 0, 0, 1), callee(1, 0, 2, 1)],
-    random,
+    random: |_, random| any(random),
     ..BARE
 };
 
@@ -58,7 +58,7 @@ fn listed() -> Vec<Call<'static>> {
 }
 
 /// A call that mostly falls near an end of the list, or inside it.
-fn random(random: &mut Random) -> Call<'static> {
+fn any(random: &mut Random) -> Call<'static> {
     let count = match random.within(0, 3) {
         0 => random.one_of(&COUNTS),
         1 => random.within(0, 2500) as u32,

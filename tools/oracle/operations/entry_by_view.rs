@@ -1,7 +1,6 @@
 //! The part of an entry by a view of the INDEX: 12. It is no C function of the library; `tools/tried` exports it.
 
-use super::read_entry::{self, all, any, ENTRY};
-use crate::inputs::index::{listed, more};
+use super::read_entry::{self, ENTRY};
 use crate::library::{tried_view_byte, tried_view_length};
 use crate::operation::{Call, Lent, Operation};
 
@@ -9,9 +8,6 @@ pub static OPERATION: Operation = Operation {
     number: 12,
     name: "entry_by_view",
     invoke,
-    listed: || all(&OPERATION, listed()),
-    more: || all(&OPERATION, more()),
-    random: |random| any(&OPERATION, random),
     ..ENTRY
 };
 

@@ -52,10 +52,10 @@ pub static OPERATION: Operation = Operation {
     owed,
     invoke,
     next,
-    listed: || flattening::listed().into_iter().map(flatten).collect(),
+    listed: |_| flattening::listed().into_iter().map(flatten).collect(),
     beyond: || flattening::beyond(MOST).into_iter().map(flatten).collect(),
-    more: || flattening::more().into_iter().map(flatten).collect(),
-    random,
+    more: |_| flattening::more().into_iter().map(flatten).collect(),
+    random: |_, random| any(random),
     faults: &[
         Fault {
             name: "one token too many is told",
@@ -127,7 +127,7 @@ fn flatten(given: Given) -> Call<'static> {
 }
 
 /// A charstring that mostly runs to its end, a looser one, or one of either with bytes hurt.
-fn random(random: &mut Random) -> Call<'static> {
+fn any(random: &mut Random) -> Call<'static> {
     let mut case = if random.once_in(8) { loose(random) } else { structured(random) };
     if random.once_in(5) {
         case = damaged(case, random);

@@ -10,16 +10,23 @@ use std::borrow::Cow;
 pub static OPERATION: Operation = Operation {
     number: 1,
     name: "read_charstring_number",
-    arguments: &[Argument::Bytes(0)],
     places: &[Place::U32, Place::I32, Place::Size],
     answers: &[(0, 0b111), (4, 0), (6, 0)],
     owed: |call| owed(call, Where::Charstring),
     invoke,
     next: |call, outcome| just_taken(call, outcome, outcome.values[2], 4),
-    listed: || listed_bytes().into_iter().map(|bytes| of_bytes(&OPERATION, bytes)).collect(),
+    more: |operation| vec![of_bytes(operation, vec![0x1C; 1 << 20])],
+    ..NUMBER
+};
+
+/// What both readers of numbers have in common.
+pub const NUMBER: Operation = Operation {
+    arguments: &[Argument::Bytes(0)],
+    listed: |operation| {
+        listed_bytes().into_iter().map(|bytes| of_bytes(operation, bytes)).collect()
+    },
     sample: 2000,
-    more: || vec![of_bytes(&OPERATION, vec![0x1C; 1 << 20])],
-    random: |random| of_bytes(&OPERATION, any_bytes(random)),
+    random: |operation, random| of_bytes(operation, any_bytes(random)),
     ..BARE
 };
 

@@ -1,24 +1,19 @@
 //! Reading a DICT integer: 2.
 
-use super::read_charstring_number::{just_taken, of_bytes, owed};
-use crate::inputs::number::{any_bytes, listed_bytes};
+use super::read_charstring_number::{just_taken, owed, NUMBER};
 use crate::library::ighzamrel_read_dict_integer;
-use crate::operation::{Argument, Call, Lent, Operation, Place, BARE};
+use crate::operation::{Call, Lent, Operation, Place};
 use crate::rules::number::Place as Where;
 
 pub static OPERATION: Operation = Operation {
     number: 2,
     name: "read_dict_integer",
-    arguments: &[Argument::Bytes(0)],
     places: &[Place::I32, Place::Size],
     answers: &[(0, 0b11), (4, 0), (6, 0)],
     owed: |call| owed(call, Where::Dict),
     invoke,
     next: |call, outcome| just_taken(call, outcome, outcome.values[1], 4),
-    listed: || listed_bytes().into_iter().map(|bytes| of_bytes(&OPERATION, bytes)).collect(),
-    sample: 2000,
-    random: |random| of_bytes(&OPERATION, any_bytes(random)),
-    ..BARE
+    ..NUMBER
 };
 
 fn invoke(_: &Call, lent: &Lent) -> u32 {

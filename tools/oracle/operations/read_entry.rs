@@ -14,9 +14,6 @@ pub static OPERATION: Operation = Operation {
     name: "read_entry",
     invoke,
     next,
-    listed: || all(&OPERATION, listed()),
-    more: || all(&OPERATION, more()),
-    random: |random| any(&OPERATION, random),
     ..ENTRY
 };
 
@@ -27,6 +24,9 @@ pub const ENTRY: Operation = Operation {
     answers: &[(0, 0b11), (20, 0), (21, 0), (25, 0)],
     found: Found::InSlice,
     owed,
+    listed: |operation| all(operation, listed()),
+    more: |operation| all(operation, more()),
+    random: any,
     ..BARE
 };
 
@@ -36,7 +36,7 @@ pub fn invoke(call: &Call, lent: &Lent) -> u32 {
 }
 
 /// Each entry that is asked for.
-pub fn all(operation: &'static Operation, reads: Vec<Read>) -> Vec<Call<'static>> {
+fn all(operation: &'static Operation, reads: Vec<Read>) -> Vec<Call<'static>> {
     let each = |read: Read| {
         let bytes = read.bytes;
         read.numbers.into_iter().map(move |number| entry(operation, number, bytes.clone()))
@@ -44,7 +44,7 @@ pub fn all(operation: &'static Operation, reads: Vec<Read>) -> Vec<Call<'static>
     reads.into_iter().flat_map(each).collect()
 }
 
-pub fn any(operation: &'static Operation, random: &mut Random) -> Call<'static> {
+fn any(operation: &'static Operation, random: &mut Random) -> Call<'static> {
     let bytes = any_bytes(random);
     entry(operation, any_number(&bytes, random), bytes)
 }

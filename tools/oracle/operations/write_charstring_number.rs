@@ -19,10 +19,10 @@ pub static OPERATION: Operation = Operation {
     owed: |call| owed(call, Where::Charstring),
     invoke,
     next,
-    listed,
+    listed: |_| listed(),
     sample: 2000,
     beyond: || vec![write(2, 0, 5), write(0, 0, MOST + 1)],
-    random: |random| {
+    random: |_, random| {
         let (kind, value) = any_operand(random);
         write(kind, value, any_room(random))
     },

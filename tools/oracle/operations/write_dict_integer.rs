@@ -17,10 +17,10 @@ pub static OPERATION: Operation = Operation {
     owed: |call| owed(call, Where::Dict),
     invoke,
     next: |call, outcome| rooms(call, outcome).into_iter().chain(dict_back(call, outcome)).collect(),
-    listed,
+    listed: |_| listed(),
     sample: 2000,
     beyond: || vec![write(0, MOST + 1)],
-    random: |random| write(any_integer(random), any_room(random)),
+    random: |_, random| write(any_integer(random), any_room(random)),
     ..BARE
 };
 

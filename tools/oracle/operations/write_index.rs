@@ -21,10 +21,10 @@ pub static OPERATION: Operation = Operation {
     owed,
     invoke,
     next,
-    listed,
+    listed: |_| listed(),
     beyond: || vec![write(&[], &[], MOST + 1)],
-    more,
-    random,
+    more: |_| more(),
+    random: |_, random| any(random),
     ..BARE
 };
 
@@ -132,7 +132,7 @@ fn needed(lengths: &[u32]) -> usize {
 }
 
 /// A writing that mostly is accepted, into room that mostly is just enough.
-fn random(random: &mut Random) -> Call<'static> {
+fn any(random: &mut Random) -> Call<'static> {
     if random.once_in(5000) {
         return write(&vec![0; random.within(65534, 65538) as usize], &[], MOST);
     }

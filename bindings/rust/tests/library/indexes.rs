@@ -38,7 +38,7 @@ fn an_index_is_refused() {
 }
 
 #[test]
-fn a_written_index_is_document_01s_and_reads_back() {
+fn a_written_index_is_that_of_the_rules_and_reads_back() {
     let whole = [0x00, 0x02, 0x01, 0x01, 0x02, 0x02, 0x0E];
     writes(&whole, |out| write_index(&[1, 0], &[0x0E], out));
     assert_eq!(read_entry(&whole, 0), Ok(6..7));

@@ -4,17 +4,13 @@ use ighzamrel::Profile::{Plain, Strict};
 use ighzamrel::*;
 
 #[test]
-fn written_numbers_are_document_01s_and_read_back() {
-    let rows: [(i32, &[u8]); 9] = [
+fn written_numbers_are_of_their_form_and_read_back() {
+    // one of each form; the library's own tests have every bound
+    let rows: [(i32, &[u8]); 4] = [
         (-107, &[0x20]),
-        (107, &[0xF6]),
-        (108, &[0xF7, 0x00]),
         (1131, &[0xFA, 0xFF]),
-        (-108, &[0xFB, 0x00]),
         (-1131, &[0xFE, 0xFF]),
-        (1132, &[0x1C, 0x04, 0x6C]),
         (-1132, &[0x1C, 0xFB, 0x94]),
-        (32767, &[0x1C, 0x7F, 0xFF]),
     ];
     for (value, bytes) in rows {
         let width = bytes.len();
@@ -67,7 +63,7 @@ fn numbers_are_refused() {
 }
 
 #[test]
-fn call_indexes_are_document_01s() {
+fn call_indexes_are_those_of_the_rules() {
     let rows = [
         (Integer(-107), Ok(-107), Ok(-107)),
         (Fixed(-107 * 65536), Ok(-107), Ok(-107)),
