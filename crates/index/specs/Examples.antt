@@ -31,6 +31,14 @@ back = 0 ∷ 3 ∷ 2 ∷ 0 ∷ 1 ∷ 0 ∷ 3 ∷ 0 ∷ 2 ∷ 0 ∷ 3 ∷ 7 ∷ 8
 abbrev wide : List ℕ
 wide = 0 ∷ 0 ∷ 0 ∷ 1 ∷ 1 ∷ 1 ∷ 2 ∷ 0x0B ∷ []
 
+-- eight bytes behind a count and a size byte, as offsets of each size
+abbrev eight : List ℕ
+eight = 0 ∷ 1 ∷ 0 ∷ 0x11 ∷ 0x22 ∷ 0x33 ∷ 0x44 ∷ 0x55 ∷ 0x66 ∷ 0x77 ∷ 0x88 ∷ []
+
+pub sizes : (offset 2 eight 1 1 ≡ 0x22) × (offset 2 eight 2 1 ≡ 0x3344) × (offset 2 eight 3 1 ≡ 0x445566) × (offset 2 eight 4 1 ≡ 0x55667788)
+unfolding offset beAt
+sizes = (refl, refl, refl, refl)
+
 pub reads :
     (extent 2 two ≡ has 2 7)
     × (extent 2 none ≡ has 0 6)

@@ -1,12 +1,12 @@
 -- Offsets of each size by one rule, and where the data start. Assumes nothing.
-use mathlib.Core.Path.{_≡_, sym, ap, _∙_}
+use mathlib.Core.Path.{_≡_, refl, sym, ap, _∙_}
 use mathlib.Core.List.{List}
-use Prim.Native.Nat.{ℕ, zero, suc, _+_, _-_, _*_, _/_, _%_, _<_, _≤_, _^_}
+use Prim.Native.Nat.{ℕ, zero, suc, _+_, _-_, _*_, _%_, _<_, _≤_, _^_}
 use native.Mathlib.Nat.{le-refl, add-zero, add-suc, add-assoc, add-mul, one-mul, mul-assoc, mul-le-mul, mul-le-mul-right}
 use native.Mathlib.Omega.{arith}
 use lib.Bits.{bitAnd, and-mask}
 use lib.ListN.{getD}
-use lib.Pow.{pow-add, high, low, ones-split, ones-lt}
+use lib.Pow.{pow-add, low}
 use Rattle.number.specs.BigEndian.{beAt}
 use Rattle.number.specs.BigEndianLaws.{be-lt}
 use Rattle.index.specs.Index.{dataStart, offset}
@@ -69,15 +69,11 @@ module _ (w : ℕ) (s : List ℕ) (bytes : (i : ℕ) → getD s i 0 < 256) where
       (ap (λ (x : ℕ). beAt s (dataStart w i z - 4) x % 2 ^ (8 * z)) (sym e)
       ∙ last-bytes s (dataStart w i z - 4) (4 - z) z bytes ∙ ap (λ (x : ℕ). beAt s x z) p)
 
--- a word of ones, shifted until so many bytes are left
-pub sized-shift : (z gap : ℕ) → 0 < z → z ≤ 4 → gap ≡ 8 * (4 - z) → Sized z (4294967295 / 2 ^ gap)
-sized-shift z gap h k e = record { some = h; four = k; ones = left }
-  where
-    whole : 8 * z + gap ≡ 32
-    whole = omega arith
-
-    all : 4294967295 ≡ (2 ^ (8 * z) - 1) * 2 ^ gap + (2 ^ gap - 1)
-    all = ap (λ (x : ℕ). 2 ^ x - 1) (sym whole) ∙ ones-split (8 * z) gap
-
-    left : 4294967295 / 2 ^ gap ≡ 2 ^ (8 * z) - 1
-    left = ap (λ (x : ℕ). x / 2 ^ gap) all ∙ high (2 ^ (8 * z) - 1) gap (ones-lt gap)
+-- what holds at each offset size
+pub one-of-four : {P : Type 0} (z : ℕ) → 0 < z → z ≤ 4 → (z ≡ 1 → P) → (z ≡ 2 → P) → (z ≡ 3 → P) → (z ≡ 4 → P) → P
+one-of-four zero h k a b c d = absurd (omega arith)
+one-of-four (suc zero) h k a b c d = a refl
+one-of-four (suc (suc zero)) h k a b c d = b refl
+one-of-four (suc (suc (suc zero))) h k a b c d = c refl
+one-of-four (suc (suc (suc (suc zero)))) h k a b c d = d refl
+one-of-four (suc (suc (suc (suc (suc z))))) h k a b c d = absurd (omega arith)
