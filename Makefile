@@ -3,7 +3,7 @@ SECONDS =
 SOURCES = ../shared
 export SOURCES
 
-.PHONY: kit test run lib native list driver differential faults fixed fuzz fuzz-faults bench clean
+.PHONY: kit test run lib native size list driver differential faults fixed fuzz fuzz-faults bench clean
 
 # the proofs, the compiler and the loader are the kit's
 kit:
@@ -32,6 +32,12 @@ native: kit
 	@tools/native-staticlib ighzamrel
 	@tools/lib target/native
 	@echo 'native: target/native has libighzamrel.a, include/ighzamrel.h and pkgconfig/ighzamrel.pc for this machine'
+
+# how many bytes each C function brings into a program that is linked for size: from target/lib, and from target/native where that is another
+OTHER := $(filter-out x86_64,$(shell uname -m))
+size: lib
+	@$(if $(OTHER),$(MAKE) --no-print-directory native)
+	@tools/text-size target/lib/libighzamrel.a $(OTHER:%=target/native/libighzamrel.a)
 
 # the stored list of the program `cases`, made anew from the Rust's answers and the rules
 list:

@@ -1,0 +1,90 @@
+/*
+ * Has offsets of SIZE bytes, 1 to 4, read by each C function that reads any. All else is alike at every size: the four programs differ in
+ * their data alone, and stand without a C library, so that tools/one-path can compare every instruction that they run.
+ * With BRANCH one more offset is read here, by a branch for each size, which has to show.
+ */
+#include "ighzamrel.h"
+
+#if SIZE == 1
+#define OFFSET(v) v
+#elif SIZE == 2
+#define OFFSET(v) 0, v
+#elif SIZE == 3
+#define OFFSET(v) 0, 0, v
+#else
+#define OFFSET(v) 0, 0, 0, v
+#endif
+
+enum { MOST = 3 + 4 * 4 + 4, ROOM = 16 };
+
+/* Three entries, 0B, 8B 0B and 0B. Data that may change stand behind the code, which is then at the same place at every size. */
+static volatile uint8_t list[MOST] = {0, 3, SIZE, OFFSET(1), OFFSET(2), OFFSET(4), OFFSET(5), 0x0B, 0x8B, 0x0B, 0x0B};
+static volatile size_t list_len = 3 + 4 * SIZE + 4;
+/* local entry 0, global entry 1, local entry 2 */
+static const uint8_t charstring[] = {0x20, 0x0A, 0x21, 0x1D, 0x22, 0x0A, 0x0E};
+
+void *memcpy(void *to, const void *from, size_t n)
+{
+    size_t i;
+    for (i = 0; i < n; i++)
+        ((uint8_t *)to)[i] = ((const uint8_t *)from)[i];
+    return to;
+}
+
+void *memset(void *to, int byte, size_t n)
+{
+    size_t i;
+    for (i = 0; i < n; i++)
+        ((uint8_t *)to)[i] = (uint8_t)byte;
+    return to;
+}
+
+#ifdef BRANCH
+static uint32_t by_branch(void)
+{
+    switch (list[2]) {
+    case 1: return list[3];
+    case 2: return list[3] * 256u + list[4];
+    case 3: return (list[3] * 256u + list[4]) * 256u + list[5];
+    default: return ((list[3] * 256u + list[4]) * 256u + list[5]) * 256u + list[6];
+    }
+}
+#else
+static uint32_t by_branch(void) { return 1; }
+#endif
+
+/* How many answers are wrong. */
+static int wrong(void)
+{
+    const uint8_t *bytes = (const uint8_t *)list;
+    size_t taken = 0, start = 0, size = 0, length = 0;
+    uint32_t count = 0, tokens = 0;
+    uint8_t out[ROOM];
+    int faults = by_branch() != 1;
+    faults += ighzamrel_read_index(bytes, list_len, &count, &taken) != IGHZAMREL_ACCEPTED || count != 3 || taken != list_len;
+    faults += ighzamrel_read_entry(bytes, list_len, 1, &start, &size) != IGHZAMREL_ACCEPTED || start != list_len - 3 || size != 2;
+    faults += ighzamrel_read_entry(bytes, list_len, 3, &start, &size) != IGHZAMREL_ENTRY_ABSENT;
+    faults += ighzamrel_flatten(charstring, sizeof charstring, bytes, list_len, bytes, list_len, IGHZAMREL_PLAIN, 100, out, sizeof out, &length,
+                                &tokens) != IGHZAMREL_ACCEPTED || length != 2 || tokens != 11;
+    return faults;
+}
+
+static void leave(long status)
+{
+#if defined(__x86_64__)
+    __asm__ volatile("syscall" : : "a"(60L), "D"(status));
+#else
+    register long call __asm__("x8") = 93;
+    register long word __asm__("x0") = status;
+    __asm__ volatile("svc 0" : : "r"(call), "r"(word));
+#endif
+}
+
+#if defined(__x86_64__)
+__attribute__((force_align_arg_pointer))
+#endif
+void _start(void);
+void _start(void)
+{
+    leave(wrong());
+}
