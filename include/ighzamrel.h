@@ -19,6 +19,9 @@
  * the charstring: at 64 strings deep, the most in plain, it used less than 44 KiB of stack, at 11, the most
  * in strict, less than 11 KiB, and each other function less than 200 bytes (x86-64; docs/BENCHMARKS.md says
  * how that was measured).
+ *
+ * Each function stands in a section of its own, so a program that is linked with --gc-sections has what it calls
+ * and no more.
  */
 #ifndef IGHZAMREL_H
 #define IGHZAMREL_H

@@ -1,9 +1,10 @@
 /*
- * Runs a program one instruction after the other, prints the address of each, and ends as it ends. A program that waits for a lock would never
- * get it so; tools/c/offsets.c has none.
+ * Runs a program one instruction after the other, prints the address of each, and ends as it ends; with 125 where the machine lets no program be
+ * traced, and 126 where the program did not end by itself. One that waits for a lock never would; tools/c/offsets.c has none.
  */
 #define _GNU_SOURCE
 #include <elf.h>
+#include <signal.h>
 #include <stdio.h>
 #include <sys/ptrace.h>
 #include <sys/types.h>
@@ -18,7 +19,7 @@
 #define PLACE pc
 #endif
 
-enum { MOST = 1000000, FAILED = 125 };
+enum { MOST = 1000000, NOT_TRACED = 125, NOT_ENDED = 126 };
 
 int main(int argc, char **argv)
 {
@@ -28,15 +29,15 @@ int main(int argc, char **argv)
     long steps;
     pid_t child;
     if (argc != 2)
-        return FAILED;
+        return NOT_TRACED;
     child = fork();
     if (child == 0) {
         if (ptrace(PTRACE_TRACEME, 0, NULL, NULL) == 0)
             execv(argv[1], argv + 1);
-        _exit(FAILED);
+        _exit(NOT_TRACED);
     }
     if (child < 0 || waitpid(child, &status, 0) < 0)
-        return FAILED;
+        return NOT_TRACED;
     for (steps = 0; WIFSTOPPED(status) && steps < MOST; steps++) {
         if (ptrace(PTRACE_GETREGSET, child, (void *)NT_PRSTATUS, &into) != 0)
             break;
@@ -44,9 +45,8 @@ int main(int argc, char **argv)
         if (ptrace(PTRACE_SINGLESTEP, child, NULL, NULL) != 0 || waitpid(child, &status, 0) < 0)
             break;
     }
-    if (!WIFEXITED(status)) {
-        ptrace(PTRACE_KILL, child, NULL, NULL);
-        return FAILED;
-    }
-    return WEXITSTATUS(status);
+    if (WIFEXITED(status))
+        return WEXITSTATUS(status);
+    kill(child, SIGKILL);
+    return NOT_ENDED;
 }

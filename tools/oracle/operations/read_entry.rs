@@ -3,7 +3,9 @@
 use super::read_index;
 use crate::inputs::index::{any_bytes, any_number, listed, more, Read};
 use crate::library::ighzamrel_read_entry;
-use crate::operation::{Argument, Call, Found, Lent, Must, Next, Operation, Outcome, Owed, Place, BARE};
+use crate::operation::{
+    library, Argument, Call, Fault, Found, Lent, Must, Next, Operation, Outcome, Owed, Place, BARE,
+};
 use crate::random::Random;
 use crate::rules::index as rules;
 use crate::source::index as source;
@@ -14,6 +16,12 @@ pub static OPERATION: Operation = Operation {
     name: "read_entry",
     invoke,
     next,
+    faults: &[
+        Fault { name: "by offsets of one byte an entry starts late", plant: late::<1> },
+        Fault { name: "by offsets of two bytes an entry starts late", plant: late::<2> },
+        Fault { name: "by offsets of three bytes an entry starts late", plant: late::<3> },
+        Fault { name: "by offsets of four bytes an entry starts late", plant: late::<4> },
+    ],
     ..ENTRY
 };
 
@@ -77,4 +85,12 @@ fn next<'a>(call: &'a Call<'a>, outcome: &Outcome) -> Vec<Next<'a>> {
         refusal => Must::Refuse(refusal),
     };
     vec![Next { call: whole, must, law: "an entry is not refused as its INDEX is" }]
+}
+
+fn late<const SIZE: u8>(call: &Call, lent: &Lent) -> u32 {
+    let answer = library(call, lent);
+    if answer == 0 && call.slices[0][2] == SIZE {
+        unsafe { *lent.place::<usize>(0) += 1 };
+    }
+    answer
 }
