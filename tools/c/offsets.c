@@ -14,12 +14,17 @@
 #else
 #define OFFSET(v) 0, 0, 0, v
 #endif
+#define EIGHT(v) OFFSET(v), OFFSET(v), OFFSET(v), OFFSET(v), OFFSET(v), OFFSET(v), OFFSET(v), OFFSET(v)
 
-enum { MOST = 3 + 4 * 4 + 4, ROOM = 16 };
+enum { ENTRIES = 3 + 4 * 8, DATA = 4, ROOM = 16 };
 
-/* Three entries, 0B, 8B 0B and 0B. Data that may change stand behind the code, which is then at the same place at every size. */
-static volatile uint8_t list[MOST] = {0, 3, SIZE, OFFSET(1), OFFSET(2), OFFSET(4), OFFSET(5), 0x0B, 0x8B, 0x0B, 0x0B};
-static volatile size_t list_len = 3 + 4 * SIZE + 4;
+/*
+ * The entries 0B, 8B 0B and 0B, and so many empty ones that a loop for long lists would run. Data that may change stand behind the code, which is
+ * then at the same place at every size.
+ */
+static volatile uint8_t list[3 + 4 * (ENTRIES + 1) + DATA] = {
+    0, ENTRIES, SIZE, OFFSET(1), OFFSET(2), OFFSET(4), OFFSET(5), EIGHT(5), EIGHT(5), EIGHT(5), EIGHT(5), 0x0B, 0x8B, 0x0B, 0x0B};
+static volatile size_t list_len = 3 + SIZE * (ENTRIES + 1) + DATA;
 /* local entry 0, global entry 1, local entry 2 */
 static const uint8_t charstring[] = {0x20, 0x0A, 0x21, 0x1D, 0x22, 0x0A, 0x0E};
 
@@ -61,9 +66,9 @@ static int wrong(void)
     uint32_t count = 0, tokens = 0;
     uint8_t out[ROOM];
     int faults = by_branch() != 1;
-    faults += ighzamrel_read_index(bytes, list_len, &count, &taken) != IGHZAMREL_ACCEPTED || count != 3 || taken != list_len;
+    faults += ighzamrel_read_index(bytes, list_len, &count, &taken) != IGHZAMREL_ACCEPTED || count != ENTRIES || taken != list_len;
     faults += ighzamrel_read_entry(bytes, list_len, 1, &start, &size) != IGHZAMREL_ACCEPTED || start != list_len - 3 || size != 2;
-    faults += ighzamrel_read_entry(bytes, list_len, 3, &start, &size) != IGHZAMREL_ENTRY_ABSENT;
+    faults += ighzamrel_read_entry(bytes, list_len, ENTRIES, &start, &size) != IGHZAMREL_ENTRY_ABSENT;
     faults += ighzamrel_flatten(charstring, sizeof charstring, bytes, list_len, bytes, list_len, IGHZAMREL_PLAIN, 100, out, sizeof out, &length,
                                 &tokens) != IGHZAMREL_ACCEPTED || length != 2 || tokens != 11;
     return faults;

@@ -29,12 +29,13 @@ int main(int argc, char **argv)
     long steps;
     pid_t child;
     if (argc != 2)
-        return NOT_TRACED;
+        return NOT_ENDED;
     child = fork();
     if (child == 0) {
-        if (ptrace(PTRACE_TRACEME, 0, NULL, NULL) == 0)
-            execv(argv[1], argv + 1);
-        _exit(NOT_TRACED);
+        if (ptrace(PTRACE_TRACEME, 0, NULL, NULL) != 0)
+            _exit(NOT_TRACED);
+        execv(argv[1], argv + 1);
+        _exit(NOT_ENDED);
     }
     if (child < 0 || waitpid(child, &status, 0) < 0)
         return NOT_TRACED;
@@ -48,5 +49,5 @@ int main(int argc, char **argv)
     if (WIFEXITED(status))
         return WEXITSTATUS(status);
     kill(child, SIGKILL);
-    return NOT_ENDED;
+    return steps == 0 ? NOT_TRACED : NOT_ENDED;
 }
