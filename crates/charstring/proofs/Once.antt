@@ -7,8 +7,9 @@ use lib.Dec.{eqb}
 use borrow.Fn.Kinds.{Dens, resT, endedOf}
 use contract.Lifetimes.{Lfts}
 use denote.Triple.Clauses.{AtExit}
-use Rattle.number.specs.Answer.{Answer, accepted, refused, lengthOr, tokensOr}
+use Rattle.number.specs.Answer.{Answer, accepted, refused, lengthOr, tokensOr, entryOr, reasonOr}
 use Rattle.number.specs.AnswerLaws.{answer-as, left-as}
+use Rattle.index.proofs.Once.{flaw-of, flaw-undo}
 use Rattle.reading.specs.Answers.{Flattening, numberOf, flattened}
 use Rattle.reading.specs.declared.Refusal.{Refusal}
 use Rattle.reading.specs.declared.Refusal.the-variants.{BudgetSpent, BytesLacking, TooManyOperands, UnknownOperator, NoIndex}
@@ -45,7 +46,7 @@ refusal-undo Composite = refl
 flattened-of : Answer Flattening → Flattened
 flattened-of (accepted x) = Accepted (x .size) (x .tokens)
 flattened-of (refused k v) =
-    cond (eqb k 1) BadGlobals (cond (eqb k 2) BadLocals
+    cond (eqb k 1) (BadGlobals (flaw-of (reasonOr 0 v) (entryOr 0 v))) (cond (eqb k 2) (BadLocals (flaw-of (reasonOr 0 v) (entryOr 0 v)))
     (cond (eqb k 13) (NoRoom (lengthOr 0 v) (tokensOr 0 v)) (Refused (refusal-of k) (tokensOr 0 v))))
 
 -- a refusal's number is none of 1, 2 and 13
@@ -63,10 +64,10 @@ as-refused TooManyHints t = refl
 as-refused Composite t = refl
 
 flattened-undo : (r : Flattened) → flattened-of (flattened r) ≡ r
-unfolding flattened-of
+unfolding flattened-of entryOr
 flattened-undo (Accepted n t) = refl
-flattened-undo BadGlobals = refl
-flattened-undo BadLocals = refl
+flattened-undo (BadGlobals f) = ap BadGlobals (flaw-undo f)
+flattened-undo (BadLocals f) = ap BadLocals (flaw-undo f)
 flattened-undo (Refused k t) = as-refused k t ∙ ap (λ (j : Refusal). Refused j t) (refusal-undo k)
 flattened-undo (NoRoom n t) = refl
 

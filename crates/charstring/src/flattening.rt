@@ -7,8 +7,8 @@ use crate::stretch::Ending;
 use index::Formed;
 use index::IndexRead;
 use index::Width;
+use index::check_list;
 use index::read_index;
-use index::well_formed;
 use reading::Flattened;
 use reading::Profile;
 use reading::Refusal;
@@ -40,12 +40,12 @@ pub fn flatten<'a>(
 {
     let rules = rules_of(profile);
     let width = rules.width;
-    let Formed::Yes(_) = well_formed(globals, width) else {
-        return Flattened::BadGlobals;
-    };
-    let Formed::Yes(_) = well_formed(locals, width) else {
-        return Flattened::BadLocals;
-    };
+    if let Formed::No(flaw) = check_list(globals, width) {
+        return Flattened::BadGlobals(flaw);
+    }
+    if let Formed::No(flaw) = check_list(locals, width) {
+        return Flattened::BadLocals(flaw);
+    }
     write(cs, globals, locals, profile, budget, out)
 }
 

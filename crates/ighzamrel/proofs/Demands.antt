@@ -24,7 +24,7 @@ use Rattle.ighzamrel.proofs.flattening.ighzamrel_flatten.Kinds as kinds
 use Rattle.ighzamrel.proofs.flattening.ighzamrel_flatten.Reads as reads
 
 -- Of a, the arguments in their order, and of x, what each is at the end: `.0` is the charstring, `.1 .0` the globals, `.1 .1 .0` the locals, then the
--- profile, the budget, out, length, and `.1 .1 .1 .1 .1 .1 .1 .0` is tokens.
+-- profile, the budget, out, length, tokens, entry, and `.1 .1 .1 .1 .1 .1 .1 .1 .1 .0` is reason.
 
 -- the list `00 00`, in either profile
 no-entries : (p : Profile) → 0 ∷ 0 ∷ [] ≡ empty (rulesOf p)
@@ -32,7 +32,7 @@ no-entries Plain = refl
 no-entries Strict = refl
 
 -- a call that answered 0
-module _ (κs : Lfts 4) (a : Dens κs kinds.ps) (x : AtExit (endedOf 4 kinds.ps kinds.r) κs) (first : reads.Post κs a 0 x)
+module _ (κs : Lfts 6) (a : Dens κs kinds.ps) (x : AtExit (endedOf 6 kinds.ps kinds.r) κs) (first : reads.Post κs a 0 x)
     (cs-bytes : Bytes (a .0 .now)) (globals-bytes : Bytes (a .1 .0 .now)) (locals-bytes : Bytes (a .1 .1 .0 .now)) where
   abbrev rules : Rules
   rules = rulesOf (profileOf (a .1 .1 .1 .0))
@@ -52,7 +52,8 @@ module _ (κs : Lfts 4) (a : Dens κs kinds.ps) (x : AtExit (endedOf 4 kinds.ps 
 
   was-accepted : asked .answer ≡ accepted (record { size = n; tokens = t })
   was-accepted =
-      told-accepted (asked .answer) _ (record { length = n; tokens = t })
+      told-accepted (asked .answer) _
+      (record { length = n; tokens = t; entry = x .1 .1 .1 .1 .1 .1 .1 .1 .0 .now; reason = x .1 .1 .1 .1 .1 .1 .1 .1 .1 .0 .now })
       (numbered-flattening rules (a .0 .now) (a .1 .0 .now) (a .1 .1 .0 .now) (a .1 .1 .1 .1 .0) (a .1 .1 .1 .1 .1 .0 .now)) (answer-as first)
 
   -- what holds of F of the definition holds of the bytes that the call left
@@ -80,7 +81,7 @@ module _ (κs : Lfts 4) (a : Dens κs kinds.ps) (x : AtExit (endedOf 4 kinds.ps 
       cs-bytes globals-bytes locals-bytes was-accepted
 
   -- a second call, on those bytes with two lists `00 00`, the same profile, a budget of t and room for them
-  module _ (κs′ : Lfts 4) (a′ : Dens κs′ kinds.ps) (r′ : resT kinds.r κs′ .Denot) (x′ : AtExit (endedOf 4 kinds.ps kinds.r) κs′)
+  module _ (κs′ : Lfts 6) (a′ : Dens κs′ kinds.ps) (r′ : resT kinds.r κs′ .Denot) (x′ : AtExit (endedOf 6 kinds.ps kinds.r) κs′)
       (second : reads.Post κs′ a′ r′ x′) (cs-is : a′ .0 .now ≡ reported)
       (no-globals : a′ .1 .0 .now ≡ 0 ∷ 0 ∷ []) (no-locals : a′ .1 .1 .0 .now ≡ 0 ∷ 0 ∷ [])
       (same-profile : a′ .1 .1 .1 .0 ≡ a .1 .1 .1 .0) (budget-is : a′ .1 .1 .1 .1 .0 ≡ t) (room : n ≤ length (a′ .1 .1 .1 .1 .1 .0 .now)) where
@@ -89,7 +90,13 @@ module _ (κs : Lfts 4) (a : Dens κs kinds.ps) (x : AtExit (endedOf 4 kinds.ps 
     items = length (straight rules reported .items)
 
     abbrev old : FlatPlaces
-    old = record { length = a′ .1 .1 .1 .1 .1 .1 .0 .now; tokens = a′ .1 .1 .1 .1 .1 .1 .1 .0 .now }
+    old =
+        record {
+          length = a′ .1 .1 .1 .1 .1 .1 .0 .now;
+          tokens = a′ .1 .1 .1 .1 .1 .1 .1 .0 .now;
+          entry = a′ .1 .1 .1 .1 .1 .1 .1 .1 .0 .now;
+          reason = a′ .1 .1 .1 .1 .1 .1 .1 .1 .1 .0 .now;
+        }
 
     again : flattening (rulesOf (profileOf (a′ .1 .1 .1 .0))) (a′ .0 .now) (a′ .1 .0 .now)
         (a′ .1 .1 .0 .now) (a′ .1 .1 .1 .1 .0) (a′ .1 .1 .1 .1 .1 .0 .now)
@@ -99,20 +106,30 @@ module _ (κs : Lfts 4) (a : Dens κs kinds.ps) (x : AtExit (endedOf 4 kinds.ps 
         rw (cs-is, no-globals ∙ none, no-locals ∙ none, same-profile, budget-is) (says-the-same .again (a′ .1 .1 .1 .1 .1 .0 .now) room)
 
     abbrev set : FlatPlaces
-    set = record { length = x′ .1 .1 .1 .1 .1 .1 .0 .now; tokens = x′ .1 .1 .1 .1 .1 .1 .1 .0 .now }
+    set =
+        record {
+          length = x′ .1 .1 .1 .1 .1 .1 .0 .now;
+          tokens = x′ .1 .1 .1 .1 .1 .1 .1 .0 .now;
+          entry = x′ .1 .1 .1 .1 .1 .1 .1 .1 .0 .now;
+          reason = x′ .1 .1 .1 .1 .1 .1 .1 .1 .1 .0 .now;
+        }
 
     whole : leaving (told r′ set) (x′ .1 .1 .1 .1 .1 .0 .now)
-        ≡ leaving (told {A = FlatPlaces} 0 (record { length = n; tokens = items })) (reported ++ drop n (a′ .1 .1 .1 .1 .1 .0 .now))
+        ≡ leaving (told {A = FlatPlaces} 0 (record { length = n; tokens = items; entry = old .entry; reason = old .reason }))
+        (reported ++ drop n (a′ .1 .1 .1 .1 .1 .0 .now))
     unfolding tell
     whole = second ∙ ap (λ (o : Outcome (Answer Flattening)). tellFlattening o old) again
 
-    -- It answers 0, sets *length to n and *tokens to the number of their items, at most t, and gives the same bytes back: the rest of its room is as lent.
-    pub comes-back : (r′ ≡ 0) × (x′ .1 .1 .1 .1 .1 .1 .0 .now ≡ n) × (x′ .1 .1 .1 .1 .1 .1 .1 .0 .now ≡ items)
+    -- It answers 0, sets *length to n and *tokens to the number of their items, at most t, leaves *entry and *reason, and gives the same bytes back:
+    -- the rest of its room is as lent.
+    pub comes-back : (r′ ≡ 0) × (set .length ≡ n) × (set .tokens ≡ items) × (set .entry ≡ old .entry) × (set .reason ≡ old .reason)
         × (x′ .1 .1 .1 .1 .1 .0 .now ≡ reported ++ drop n (a′ .1 .1 .1 .1 .1 .0 .now)) × (items ≤ t)
     comes-back = (
       ap (λ (y : Outcome (Told FlatPlaces)). y .answer .number) whole,
       ap (λ (y : Outcome (Told FlatPlaces)). y .answer .places .length) whole,
       ap (λ (y : Outcome (Told FlatPlaces)). y .answer .places .tokens) whole,
+      ap (λ (y : Outcome (Told FlatPlaces)). y .answer .places .entry) whole,
+      ap (λ (y : Outcome (Told FlatPlaces)). y .answer .places .reason) whole,
       left-as whole,
       says-the-same .fewer,
     )

@@ -6,7 +6,7 @@ use contract.Lifetimes.{Lfts}
 use denote.Triple.Clauses.{AtExit}
 use Rattle.number.specs.Answer.{Outcome}
 use Rattle.index.specs.Index.{Extent, Place}
-use Rattle.ighzamrel.specs.Told.{Told, NumberPlaces, IntegerPlaces, FlatPlaces}
+use Rattle.ighzamrel.specs.Told.{Told, NumberPlaces, IntegerPlaces, ListPlaces, FlatPlaces}
 use Rattle.ighzamrel.proofs.numbers.ighzamrel_read_charstring_number.Kinds as charstring-kinds
 use Rattle.ighzamrel.proofs.numbers.ighzamrel_read_charstring_number.Reads as charstring-reads
 use Rattle.ighzamrel.proofs.numbers.ighzamrel_read_dict_integer.Kinds as dict-kinds
@@ -21,6 +21,8 @@ use Rattle.ighzamrel.proofs.indexes.ighzamrel_read_index.Kinds as read-
 use Rattle.ighzamrel.proofs.indexes.ighzamrel_read_index.Reads as read-reads
 use Rattle.ighzamrel.proofs.indexes.ighzamrel_read_entry.Kinds as entry-kinds
 use Rattle.ighzamrel.proofs.indexes.ighzamrel_read_entry.Reads as entry-reads
+use Rattle.ighzamrel.proofs.indexes.ighzamrel_check_list.Kinds as list-kinds
+use Rattle.ighzamrel.proofs.indexes.ighzamrel_check_list.Reads as list-reads
 use Rattle.ighzamrel.proofs.indexes.ighzamrel_write_index.Kinds as write-kinds
 use Rattle.ighzamrel.proofs.indexes.ighzamrel_write_index.Reads as write-reads
 use Rattle.ighzamrel.proofs.flattening.ighzamrel_flatten.Kinds as flatten-kinds
@@ -89,17 +91,32 @@ pub read-entry-once : (κs : Lfts 3) (a : Dens κs entry-kinds.ps) (r r′ : res
 read-entry-once κs a r r′ x x′ p p′ =
     let e = p ∙ sym p′ in (ap (λ (t : Told Place). t .number) e, ap (λ (t : Told Place). t .places .start) e, ap (λ (t : Told Place). t .places .size) e)
 
+pub check-list-once : (κs : Lfts 3) (a : Dens κs list-kinds.ps) (r r′ : resT list-kinds.r κs .Denot)
+    (x x′ : AtExit (endedOf 3 list-kinds.ps list-kinds.r) κs)
+    → list-reads.Post κs a r x → list-reads.Post κs a r′ x′ → (r ≡ r′)
+    × (x .1 .0 .now ≡ x′ .1 .0 .now) × (x .1 .1 .0 .now ≡ x′ .1 .1 .0 .now)
+check-list-once κs a r r′ x x′ p p′ =
+    let e = p ∙ sym p′ in
+    (ap (λ (t : Told ListPlaces). t .number) e, ap (λ (t : Told ListPlaces). t .places .count) e, ap (λ (t : Told ListPlaces). t .places .entry) e)
+
 pub write-index-once : (κs : Lfts 4) (a : Dens κs write-kinds.ps) (r r′ : resT write-kinds.r κs .Denot)
     (x x′ : AtExit (endedOf 4 write-kinds.ps write-kinds.r) κs)
     → write-reads.Post κs a r x → write-reads.Post κs a r′ x′ → (r ≡ r′) × (x .1 .1 .0 .now ≡ x′ .1 .1 .0 .now)
     × (x .1 .1 .1 .0 .now ≡ x′ .1 .1 .1 .0 .now)
 write-index-once κs a r r′ x x′ p p′ = written-once (p ∙ sym p′)
 
-pub flatten-once : (κs : Lfts 4) (a : Dens κs flatten-kinds.ps) (r r′ : resT flatten-kinds.r κs .Denot)
-    (x x′ : AtExit (endedOf 4 flatten-kinds.ps flatten-kinds.r) κs)
+pub flatten-once : (κs : Lfts 6) (a : Dens κs flatten-kinds.ps) (r r′ : resT flatten-kinds.r κs .Denot)
+    (x x′ : AtExit (endedOf 6 flatten-kinds.ps flatten-kinds.r) κs)
     → flatten-reads.Post κs a r x → flatten-reads.Post κs a r′ x′
     → (r ≡ r′) × (x .1 .1 .1 .1 .1 .0 .now ≡ x′ .1 .1 .1 .1 .1 .0 .now) × (x .1 .1 .1 .1 .1 .1 .0 .now ≡ x′ .1 .1 .1 .1 .1 .1 .0 .now)
-    × (x .1 .1 .1 .1 .1 .1 .1 .0 .now ≡ x′ .1 .1 .1 .1 .1 .1 .1 .0 .now)
+    × (x .1 .1 .1 .1 .1 .1 .1 .0 .now ≡ x′ .1 .1 .1 .1 .1 .1 .1 .0 .now) × (x .1 .1 .1 .1 .1 .1 .1 .1 .0 .now ≡ x′ .1 .1 .1 .1 .1 .1 .1 .1 .0 .now)
+    × (x .1 .1 .1 .1 .1 .1 .1 .1 .1 .0 .now ≡ x′ .1 .1 .1 .1 .1 .1 .1 .1 .1 .0 .now)
 flatten-once κs a r r′ x x′ p p′ =
-    let w = written-once (p ∙ sym p′) in
-    (w .0, w .1, ap (λ (y : FlatPlaces). y .length) (w .2), ap (λ (y : FlatPlaces). y .tokens) (w .2))
+    let w = written-once (p ∙ sym p′) in (
+      w .0,
+      w .1,
+      ap (λ (y : FlatPlaces). y .length) (w .2),
+      ap (λ (y : FlatPlaces). y .tokens) (w .2),
+      ap (λ (y : FlatPlaces). y .entry) (w .2),
+      ap (λ (y : FlatPlaces). y .reason) (w .2),
+    )

@@ -10,7 +10,6 @@ use lib.ListN.{length, take, drop}
 use Rattle.number.specs.Answer.{Answer, accepted, refused, alone, Outcome, leaving, Ready, into}
 use Rattle.number.specs.Call.{nearest, counts, signedAs, callIndex, entryOf, biased, callee}
 use Rattle.number.specs.declared.Operand.{Operand}
-use Rattle.index.specs.Formed.{Formation, yes, unread, emptied, bad}
 use Rattle.reading.specs.Rules.{Rules}
 use Rattle.reading.specs.Lists.{Lists, Subrs, Entry, present, absent}
 use Rattle.reading.specs.Tokens.{number, operator, Cut, token, lacking, cut}
@@ -145,13 +144,11 @@ numbered-into {A} out (accepted r) h =
     (leaving (accepted (r .told)) (r .bytes ++ drop (length (r .bytes)) out)) (leaving (refused 13 (r .short)) out) tt (lit< tt)
 numbered-into out (refused n v) h = h
 
-numbered-gate : (k : ℕ) (out : List ℕ) (f : Formation) (then : Outcome (Answer Flattening)) → 0 < k → Numbered (then .answer)
+numbered-gate : (k : ℕ) (out : List ℕ) (f : Answer ℕ) (then : Outcome (Answer Flattening)) → 0 < k → Numbered (then .answer)
     → Numbered (listGate k out f then .answer)
 unfolding listGate
-numbered-gate k out (yes n) then p h = h
-numbered-gate k out (unread n) then p h = p
-numbered-gate k out emptied then p h = p
-numbered-gate k out (bad i) then p h = p
+numbered-gate k out (accepted n) then p h = h
+numbered-gate k out (refused j v) then p h = p
 
 pub numbered-flattening : (rules : Rules) (cs globals locals : List ℕ) (budget : ℕ) (out : List ℕ)
     → Numbered (flattening rules cs globals locals budget out .answer)

@@ -3,7 +3,7 @@ use Prim.Native.Nat.{ℕ}
 use mathlib.Core.Bool.{Bool, true, false, not, cond}
 use lib.IntN.{ℤ}
 use lib.Dec.{eqb}
-use Rattle.number.specs.Answer.{Values, Answer, accepted, refused, lengthOr, tokensOr, Outcome, leaving}
+use Rattle.number.specs.Answer.{Values, Answer, accepted, refused, lengthOr, tokensOr, entryOr, reasonOr, Outcome, leaving}
 use Rattle.number.specs.Number.{Number}
 use Rattle.number.specs.declared.Operand.{Operand}
 use Rattle.reading.specs.Answers.{Flattening}
@@ -64,6 +64,21 @@ pub record IntegerPlaces : Type 0 where
 abbrev pub integerPlaces : Number → IntegerPlaces
 integerPlaces x = record { value = x .operand .value; width = x .width }
 
+-- ---- of a list: its count, or the entry that its refusal comes with
+
+pub record ListPlaces : Type 0 where
+  pub count : ℕ
+  pub entry : ℕ
+
+abbrev pub listPlaces : ListPlaces → ℕ → ListPlaces
+listPlaces old n = record { count = n; entry = old .entry }
+
+abbrev pub listPlacesOr : ListPlaces → Values → ListPlaces
+listPlacesOr old v = record { count = old .count; entry = entryOr (old .entry) v }
+
+abbrev pub tellList : Answer ℕ → ListPlaces → Told ListPlaces
+tellList x old = tell listPlaces listPlacesOr x old
+
 -- ---- of a writer: a refusal sets a place that it has a value for; and the room is as the writer leaves it
 
 abbrev pub tellLength : Outcome (Answer ℕ) → ℕ → Outcome (Told ℕ)
@@ -73,12 +88,20 @@ tellLength o old = leaving (tell (λ p n. n) lengthOr (o .answer) old) (o .left)
 pub record FlatPlaces : Type 0 where
   pub length : ℕ
   pub tokens : ℕ
+  pub entry : ℕ
+  pub reason : ℕ
 
 abbrev pub flatPlaces : FlatPlaces → Flattening → FlatPlaces
-flatPlaces old x = record { length = x .size; tokens = x .tokens }
+flatPlaces old x = record { length = x .size; tokens = x .tokens; entry = old .entry; reason = old .reason }
 
 abbrev pub flatPlacesOr : FlatPlaces → Values → FlatPlaces
-flatPlacesOr old v = record { length = lengthOr (old .length) v; tokens = tokensOr (old .tokens) v }
+flatPlacesOr old v =
+    record {
+      length = lengthOr (old .length) v;
+      tokens = tokensOr (old .tokens) v;
+      entry = entryOr (old .entry) v;
+      reason = reasonOr (old .reason) v;
+    }
 
 abbrev pub tellFlattening : Outcome (Answer Flattening) → FlatPlaces → Outcome (Told FlatPlaces)
 tellFlattening o old = leaving (tell flatPlaces flatPlacesOr (o .answer) old) (o .left)

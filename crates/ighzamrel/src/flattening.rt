@@ -1,15 +1,19 @@
 // Flattening.
+use crate::indexes::tell_entry;
 use charstring::flatten;
+use index::Flaw;
 use reading::Flattened;
 use reading::Profile;
 ghost use mathlib.Core.Path.{_≡_};
 ghost use Rattle.reading.specs.Rules.{rulesOf};
 ghost use Rattle.reading.specs.Answers.{flattening};
-ghost use Rattle.number.specs.Answer.{leaving};
+ghost use Rattle.index.specs.Formed.{reasonOf, reasonAt};
+ghost use Rattle.number.specs.Answer.{entryOr, leaving};
 ghost use Rattle.ighzamrel.specs.Told.{profileOf, told, tellFlattening};
 
 // Flattens a charstring with its two subroutine lists into the start of out: 0, the flat string's
-// length and the tokens; 13 and the same two; 3 to 12 and the tokens; or 1 or 2.
+// length and the tokens; 13 and the same two; 3 to 12 and the tokens; or 1 or 2 and the reason, which
+// is 20 or 21, or 40, 41 or 42 with the number of the first entry that is absent.
 #[no_mangle]
 pub extern "C" fn ighzamrel_flatten<'a>(
     charstring: &'a [u8],
@@ -20,11 +24,23 @@ pub extern "C" fn ighzamrel_flatten<'a>(
     out: &mut [u8],
     length: &mut usize,
     tokens: &mut u32,
+    entry: &mut u32,
+    reason: &mut u32,
 ) -> u32
-    ensures { λ r. ⌜ leaving (told r (record { length = now (length .exit); tokens = now (tokens .exit) })) (now (out .exit))
+    ensures { λ r. ⌜ leaving (told r (record {
+      length = now (length .exit);
+      tokens = now (tokens .exit);
+      entry = now («entry» .exit);
+      reason = now (reason .exit);
+    })) (now (out .exit))
         ≡ tellFlattening
         (flattening (rulesOf (profileOf profile)) (now (charstring .entry)) (now (globals .entry)) (now (locals .entry)) budget (now (out .entry)))
-        (record { length = now (length .entry); tokens = now (tokens .entry) }) ⌝ }
+        (record {
+          length = now (length .entry);
+          tokens = now (tokens .entry);
+          entry = now («entry» .entry);
+          reason = now (reason .entry);
+        }) ⌝ }
 {
     let flattened = flatten(
         charstring,
@@ -40,8 +56,14 @@ pub extern "C" fn ighzamrel_flatten<'a>(
             *tokens = count;
             flattened.number()
         }
-        Flattened::BadGlobals => flattened.number(),
-        Flattened::BadLocals => flattened.number(),
+        Flattened::BadGlobals(flaw) => {
+            tell_flaw(flaw, entry, reason);
+            flattened.number()
+        }
+        Flattened::BadLocals(flaw) => {
+            tell_flaw(flaw, entry, reason);
+            flattened.number()
+        }
         Flattened::Refused(_, count) => {
             *tokens = count;
             flattened.number()
@@ -52,6 +74,14 @@ pub extern "C" fn ighzamrel_flatten<'a>(
             flattened.number()
         }
     }
+}
+
+// Tells a list's flaw, which is the reason of another refusal.
+fn tell_flaw(flaw: Flaw, entry: &mut u32, reason: &mut u32)
+    ensures { λ _. ⌜ (now («entry» .exit) ≡ entryOr (now («entry» .entry)) (reasonAt flaw)) × (now (reason .exit) ≡ reasonOf flaw) ⌝ }
+{
+    *reason = flaw.number();
+    tell_entry(flaw, entry);
 }
 
 fn profile_of(profile: u32) -> Profile

@@ -1,16 +1,20 @@
 // An INDEX read, taken apart and written.
 use index::EntryRead;
+use index::Flaw;
+use index::Formed;
 use index::IndexRead;
 use index::Width;
+use index::check_list;
 use index::read_entry;
 use index::read_index;
 use index_writing::IndexWritten;
 use index_writing::write_index;
 ghost use mathlib.Core.Path.{_≡_};
 ghost use Rattle.index.specs.Index.{extent, place as entryPlace};
+ghost use Rattle.index.specs.Formed.{formation, reasonAt};
 ghost use Rattle.index_writing.specs.Writing.{writeIndex};
-ghost use Rattle.number.specs.Answer.{leaving};
-ghost use Rattle.ighzamrel.specs.Told.{told, asIs, tellRead, tellLength};
+ghost use Rattle.number.specs.Answer.{entryOr, leaving};
+ghost use Rattle.ighzamrel.specs.Told.{told, asIs, tellRead, tellList, tellLength};
 
 // The INDEX at the start of the bytes: 0, how many entries it has and how many bytes it takes; or 20
 // or 21.
@@ -32,7 +36,7 @@ pub extern "C" fn ighzamrel_read_index(bytes: &[u8], count: &mut u32, taken: &mu
 }
 
 // Entry `number` of the INDEX at the start of the bytes: 0, its place, counted from the first of
-// them, and its length; or 20, 21 or 25.
+// them, and its length; or 20, 21, 25, 40, 41 or 42.
 #[no_mangle]
 pub extern "C" fn ighzamrel_read_entry(
     bytes: &[u8],
@@ -52,7 +56,36 @@ pub extern "C" fn ighzamrel_read_entry(
         }
         EntryRead::Lacking => read.number(),
         EntryRead::BadSize => read.number(),
-        EntryRead::Absent => read.number(),
+        EntryRead::Absent(_) => read.number(),
+    }
+}
+
+// Whether the INDEX at the start of the bytes is well formed: 0 and its count; 40, 41 or 42 and the number of the first
+// entry that is absent, which is 0 where a last offset of 0 gives 40; or 20 or 21.
+#[no_mangle]
+pub extern "C" fn ighzamrel_check_list(bytes: &[u8], count: &mut u32, entry: &mut u32) -> u32
+    ensures { λ r. ⌜ told r (record { count = now (count .exit); entry = now («entry» .exit) })
+        ≡ tellList (formation 2 (now (bytes .entry))) (record { count = now (count .entry); entry = now («entry» .entry) }) ⌝ }
+{
+    let formed = check_list(bytes, Width::Two);
+    match formed {
+        Formed::Yes(n) => {
+            *count = n;
+            formed.number()
+        }
+        Formed::No(flaw) => {
+            tell_entry(flaw, entry);
+            formed.number()
+        }
+    }
+}
+
+// Tells the entry that comes with a list's flaw.
+pub(crate) fn tell_entry(flaw: Flaw, entry: &mut u32)
+    ensures { λ _. ⌜ now («entry» .exit) ≡ entryOr (now («entry» .entry)) (reasonAt flaw) ⌝ }
+{
+    if let Flaw::Entry(i, _) = flaw {
+        *entry = i;
     }
 }
 

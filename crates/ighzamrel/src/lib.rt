@@ -9,6 +9,7 @@ mod indexes;
 mod numbers;
 
 pub use crate::flattening::ighzamrel_flatten;
+pub use crate::indexes::ighzamrel_check_list;
 pub use crate::indexes::ighzamrel_read_entry;
 pub use crate::indexes::ighzamrel_read_index;
 pub use crate::indexes::ighzamrel_write_index;

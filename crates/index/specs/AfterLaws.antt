@@ -1,18 +1,18 @@
 -- Bytes after an INDEX are ignored: what is read of s is read of s with any bytes r behind it. Assumes nothing.
 use mathlib.Core.Path.{_≡_, refl, sym, ap, _∙_}
-use mathlib.Core.Bool.{Bool, true, false}
+use mathlib.Core.Bool.{Bool, true, false, cond}
 use mathlib.Core.List.{List, _++_}
 use Prim.Native.Nat.{ℕ, zero, suc, _+_, _-_, _*_, _<_, _≤_}
 use native.Mathlib.Nat.{le-refl}
 use native.Mathlib.Omega.{arith}
-use lib.Dec.{ltb}
+use lib.Dec.{eqb, ltb}
 use lib.ListN.{length, getD, drop, length-append, length-drop, List·getD-append}
 use lib.Seq.{take-append-le, drop-append-le}
 use borrow.Author.Tests.{ltb-true, ltb-false}
-use Rattle.number.specs.Answer.{Answer, accepted, refused}
+use Rattle.number.specs.Answer.{Answer, accepted, refused, alone}
 use Rattle.number.specs.BigEndian.{beAt}
 use Rattle.index.specs.Index.{Place, dataStart, offset, extent, placeIn, place, bytesBy, part}
-use Rattle.index.specs.Formed.{entriesFrom, formedBy, formation}
+use Rattle.index.specs.Formed.{unless, entriesFrom, formedBy, formation}
 use Rattle.index.specs.OffsetLaws.{start-is, start-mono}
 use Rattle.index.specs.Code.{offsetOf, Headed, reach, Full, Inside}
 use Rattle.index.specs.IndexLaws.{has, Shape, none, emptied, full, shape, entries-full, size-there, count-zero, last-zero, full-read}
@@ -85,15 +85,22 @@ module _ (s r : List ℕ) where
               rw (en, et, ← size-after h) (last-zero w (s ++ r) (headed-after h) (at-after h m (le-refl m) ∙ l))
           go (full f et) = full-read w (s ++ r) (full-after f) (et ∙ sym (reach-after f))
 
+      count-after : beAt (s ++ r) 0 w ≡ beAt s 0 w
+      count-after = let h = count-there w s n t e in be-after 0 w (omega arith)
+
       below : (i : ℕ) → i < n → Full w s n → place w (s ++ r) i ≡ place w s i
       unfolding place placeIn
-      below i h f = rw (← read-after, ← e, at-after (f .head) i (omega arith), at-after (f .head) (i + 1) (omega arith), size-after (f .head))
+      below i h f =
+          rw (← read-after, ← e, count-after, at-after (f .head) i (omega arith), at-after (f .head) (i + 1) (omega arith), size-after (f .head))
 
       pub place-after : (i : ℕ) → place w (s ++ r) i ≡ place w s i
       place-after i = go (ltb i n) refl
         where
           go : (b : Bool) → ltb i n ≡ b → place w (s ++ r) i ≡ place w s i
-          go false b = sym (past-count w (s ++ r) i read-after (ltb-false i n b)) ∙ past-count w s i e (ltb-false i n b)
+          go false b =
+              let h = ltb-false i n b in
+              sym (past-count w (s ++ r) i read-after h)
+              ∙ ap (λ (m : ℕ). refused (cond (eqb n m) 25 40) alone) count-after ∙ past-count w s i e h
           go true b = below i (ltb-true i n b) (entries-full w s n t e (omega (arith, ltb-true i n b)) .0)
 
       pub part-after : (i : ℕ) → part w (s ++ r) i ≡ part w s i
@@ -107,5 +114,4 @@ module _ (s r : List ℕ) where
 
       pub formation-after : formation w (s ++ r) ≡ formation w s
       unfolding formation formedBy
-      formation-after =
-          let h = count-there w s n t e in rw (← read-after, ← e, be-after 0 w (omega arith), entries-after 0 n)
+      formation-after = rw (← read-after, ← e, count-after, entries-after 0 (beAt s 0 w))

@@ -2,10 +2,10 @@
 use mathlib.Core.Path.{_≡_, refl}
 use mathlib.Core.List.{List, [], _∷_}
 use Prim.Native.Nat.{ℕ}
-use Rattle.number.specs.Answer.{refused, alone}
+use Rattle.number.specs.Answer.{accepted, refused, alone, atEntry}
 use Rattle.number.specs.BigEndian.{beAt}
-use Rattle.index.specs.Index.{offset, byLast, bySize, byCount, extent, absent, placeBy, placeIn, place, bytesBy, part}
-use Rattle.index.specs.Formed.{yes, unread, emptied, bad, entriesFrom, formedBy, formation}
+use Rattle.index.specs.Index.{offset, byLast, bySize, byCount, extent, placeBy, placeIn, place, bytesBy, part}
+use Rattle.index.specs.Formed.{unless, entriesFrom, formedBy, formation}
 use Rattle.index.specs.IndexLaws.{has, lies}
 
 -- the elements `0E` and empty
@@ -51,29 +51,57 @@ reads = (refl, refl, refl, refl, refl, refl)
 
 pub entries :
     (place 2 two 1 ≡ lies 7 0)
-    × (place 2 two 2 ≡ refused 25 alone)
-    × (place 2 none 0 ≡ refused 25 alone)
     × (place 2 late 0 ≡ lies 6 1)
     × (place 2 end 0 ≡ lies 7 0)
-    × (place 2 back 1 ≡ refused 25 alone)
-unfolding place placeIn placeBy absent extent byCount bySize byLast offset beAt
-entries = (refl, refl, refl, refl, refl, refl)
+unfolding place placeIn placeBy extent byCount bySize byLast offset beAt
+entries = (refl, refl, refl)
 
 pub parts : (part 2 two 0 ≡ 0x0E ∷ []) × (part 2 late 0 ≡ 0x0B ∷ []) × (part 2 two 2 ≡ [])
-unfolding part bytesBy place placeIn placeBy absent extent byCount bySize byLast offset beAt
+unfolding part bytesBy place placeIn placeBy extent byCount bySize byLast offset beAt
 parts = (refl, refl, refl)
 
+-- two entries with these three offsets, and a byte of data
+abbrev offsets : ℕ → ℕ → ℕ → List ℕ
+offsets a b c = 0 ∷ 2 ∷ 1 ∷ a ∷ b ∷ c ∷ 7 ∷ []
+
+-- each way to be absent: past the count, also of the empty list; an offset of 0, the first or the second; descending; past the data
+pub reasons :
+    (place 2 two 2 ≡ refused 25 alone)
+    × (place 2 (0 ∷ 0 ∷ []) 0 ≡ refused 25 alone)
+    × (place 2 (offsets 0 1 2) 0 ≡ refused 40 alone)
+    × (place 2 (offsets 1 0 2) 0 ≡ refused 40 alone)
+    × (place 2 back 1 ≡ refused 41 alone)
+    × (place 2 (offsets 1 3 2) 0 ≡ refused 42 alone)
+unfolding place placeIn placeBy extent byCount bySize byLast offset beAt
+reasons = (refl, refl, refl, refl, refl, refl)
+
+-- Where two hold at once the first is told: a last offset of 0 before the count; the count before what would be offsets, here data; 0 before
+-- descending and before passing; descending before passing.
+pub orders :
+    (place 2 none 0 ≡ refused 40 alone)
+    × (place 2 none 7 ≡ refused 40 alone)
+    × (place 2 (0 ∷ 1 ∷ 1 ∷ 1 ∷ 3 ∷ 0 ∷ 9 ∷ []) 1 ≡ refused 25 alone)
+    × (place 2 (offsets 5 0 2) 0 ≡ refused 40 alone)
+    × (place 2 (offsets 0 5 2) 0 ≡ refused 40 alone)
+    × (place 2 (offsets 9 5 2) 0 ≡ refused 41 alone)
+unfolding place placeIn placeBy extent byCount bySize byLast offset beAt
+orders = (refl, refl, refl, refl, refl, refl)
+
+-- of a list the first that is absent, and why; of an emptied one entry 0
 pub lists :
-    (formation 2 two ≡ yes 2)
-    × (formation 2 none ≡ emptied)
-    × (formation 2 late ≡ yes 1)
-    × (formation 2 (0 ∷ 0 ∷ []) ≡ yes 0)
-    × (formation 2 [] ≡ unread 20)
-    × (formation 2 back ≡ bad 1)
-unfolding formation formedBy entriesFrom place placeIn placeBy absent extent byCount bySize byLast offset beAt
-lists = (refl, refl, refl, refl, refl, refl)
+    (formation 2 two ≡ accepted 2)
+    × (formation 2 late ≡ accepted 1)
+    × (formation 2 (0 ∷ 0 ∷ []) ≡ accepted 0)
+    × (formation 2 [] ≡ refused 20 alone)
+    × (formation 2 (0 ∷ 1 ∷ 5 ∷ []) ≡ refused 21 alone)
+    × (formation 2 none ≡ refused 40 (atEntry 0))
+    × (formation 2 (offsets 0 1 2) ≡ refused 40 (atEntry 0))
+    × (formation 2 back ≡ refused 41 (atEntry 1))
+    × (formation 2 (offsets 1 3 2) ≡ refused 42 (atEntry 0))
+unfolding formation formedBy entriesFrom unless place placeIn placeBy extent byCount bySize byLast offset beAt
+lists = (refl, refl, refl, refl, refl, refl, refl, refl, refl)
 
 pub widths : (extent 4 wide ≡ has 1 8) × (place 4 wide 0 ≡ lies 7 1)
-    × (extent 4 (0 ∷ 0 ∷ 1 ∷ []) ≡ refused 20 alone) × (formation 4 wide ≡ yes 1)
-unfolding formation formedBy entriesFrom place placeIn placeBy absent extent byCount bySize byLast offset beAt
+    × (extent 4 (0 ∷ 0 ∷ 1 ∷ []) ≡ refused 20 alone) × (formation 4 wide ≡ accepted 1)
+unfolding formation formedBy entriesFrom unless place placeIn placeBy extent byCount bySize byLast offset beAt
 widths = (refl, refl, refl, refl)

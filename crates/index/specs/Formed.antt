@@ -1,43 +1,46 @@
--- A list that is well formed (RULES, "INDEX"): the read is accepted, no last offset of 0 emptied it, and every entry is present.
+-- A list that is well formed (RULES, "INDEX"): the read is accepted, and every entry that the count tells of is present.
 use Prim.Native.Nat.{ℕ, zero, suc, _+_}
-use mathlib.Core.Bool.{Bool, true, false, cond}
 use mathlib.Core.List.{List}
-use lib.Dec.{eqb}
-use Rattle.number.specs.Answer.{Answer, accepted, refused}
+use Rattle.number.specs.Answer.{Values, Answer, accepted, refused, alone, atEntry}
 use Rattle.number.specs.BigEndian.{beAt}
-use Rattle.index.specs.Index.{Extent, Place, extent, place}
+use Rattle.index.specs.Index.{Extent, Place, extent, place, absence}
+use Rattle.index.specs.declared.list.Flaw.{Flaw}
+use Rattle.index.specs.declared.list.Flaw.the-variants.{Lacking, BadSize, Entry}
 use Rattle.index.specs.declared.list.Formed.{Formed}
-use Rattle.index.specs.declared.list.Formed.the-variants.{Yes, Lacking, BadSize, Emptied, Bad}
+use Rattle.index.specs.declared.list.Formed.the-variants.{Yes, No}
 
--- well formed, with the count; the refusal of reading; emptied by a last offset of 0; or the number of the first entry that is absent
-pub data Formation : Type 0 where
-  yes : ℕ → Formation
-  unread : ℕ → Formation
-  emptied : Formation
-  bad : ℕ → Formation
+-- entry i decides where it is refused, with its number; else what comes behind it
+unfoldable pub unless : ℕ → Answer Place → Answer ℕ → Answer ℕ
+unless i (accepted p) behind = behind
+unless i (refused k v) behind = refused k (atEntry i)
 
-abbrev pub isPresent : Answer Place → Bool
-isPresent (accepted p) = true
-isPresent (refused k v) = false
+-- k entries from number i on: accepted with the number behind them if all are present, else the refusal of the first that is not
+unfoldable pub entriesFrom : ℕ → List ℕ → ℕ → ℕ → Answer ℕ
+entriesFrom w s i zero = accepted i
+entriesFrom w s i (suc k) = unless i (place w s i) (entriesFrom w s (i + 1) k)
 
--- k entries from number i on: `yes` with the number after them if all are present, else the first that is absent
-unfoldable pub entriesFrom : ℕ → List ℕ → ℕ → ℕ → Formation
-entriesFrom w s i zero = yes i
-entriesFrom w s i (suc k) = cond (isPresent (place w s i)) (entriesFrom w s (i + 1) k) (bad i)
+unfoldable pub formedBy : ℕ → List ℕ → Answer Extent → Answer ℕ
+formedBy w s (accepted x) = entriesFrom w s 0 (beAt s 0 w)
+formedBy w s (refused k v) = refused k alone
 
--- an INDEX that has not as many entries as its count says has none: a last offset of 0 emptied it
-unfoldable pub formedBy : ℕ → List ℕ → Answer Extent → Formation
-formedBy w s (accepted x) = cond (eqb (x .entries) (beAt s 0 w)) (entriesFrom w s 0 (x .entries)) emptied
-formedBy w s (refused k v) = unread k
-
--- of the list at the start of s
-unfoldable pub formation : ℕ → List ℕ → Formation
+-- Of the list at the start of s: its count; the refusal of reading it; or that of its first entry that is absent, with its number. Where a last
+-- offset of 0 emptied it, that is entry 0.
+unfoldable pub formation : ℕ → List ℕ → Answer ℕ
 formation w s = formedBy w s (extent w s)
 
--- what a `Formed` says
-abbrev pub formed : Formed → Formation
-formed (Yes n) = yes n
-formed Lacking = unread 20
-formed BadSize = unread 21
-formed Emptied = emptied
-formed (Bad i) = bad i
+-- ---- what the answers say
+
+-- the refusal of a flaw, and what comes with it
+abbrev pub reasonOf : Flaw → ℕ
+reasonOf Lacking = 20
+reasonOf BadSize = 21
+reasonOf (Entry i why) = absence why
+
+abbrev pub reasonAt : Flaw → Values
+reasonAt Lacking = alone
+reasonAt BadSize = alone
+reasonAt (Entry i why) = atEntry i
+
+abbrev pub formed : Formed → Answer ℕ
+formed (Yes n) = accepted n
+formed (No f) = refused (reasonOf f) (reasonAt f)

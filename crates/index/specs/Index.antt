@@ -2,7 +2,7 @@
 -- Offsets are counted from the byte before the data, so the last one is one more than the data's length.
 -- The count has w bytes: 2 in CFF. Below, s is the bytes, n the count and z the offset size.
 use Prim.Native.Nat.{ℕ, _+_, _-_, _*_}
-use mathlib.Core.Bool.{Bool, cond, _||_}
+use mathlib.Core.Bool.{cond, _||_}
 use mathlib.Core.List.{List, []}
 use lib.ListN.{length, getD, take, drop}
 use lib.Dec.{leb, ltb, eqb}
@@ -12,6 +12,8 @@ use Rattle.index.specs.declared.width.Width.{Width}
 use Rattle.index.specs.declared.width.Width.the-variants.{Two, Four}
 use Rattle.index.specs.declared.read.IndexRead.{IndexRead}
 use Rattle.index.specs.declared.read.IndexRead.the-variants.{Read, Lacking, BadSize}
+use Rattle.index.specs.declared.absence.Absence.{Absence}
+use Rattle.index.specs.declared.absence.Absence.the-variants.{PastCount, ZeroOffset, Descending, PastData}
 use Rattle.index.specs.declared.entry.EntryRead.{EntryRead}
 use Rattle.index.specs.declared.entry.EntryRead.the-variants.{Entry, Lacking as NoBytes, BadSize as NoSize, Absent}
 
@@ -67,28 +69,31 @@ pub record Place : Type 0 where
   pub start : ℕ
   pub size : ℕ
 
--- Entry i lies between offset i and offset i + 1, here a and b. It is absent if i is not below the number of entries, if either offset is 0,
--- if they descend, or if they pass the data, which start at `start`.
-unfoldable pub absent : ℕ → Extent → ℕ → ℕ → ℕ → Bool
-absent i x start a b = leb (x .entries) i || (eqb a 0 || (eqb b 0 || (ltb b a || ltb (x .taken) (start + (b - 1)))))
-
+-- Entry i lies between offset i and offset i + 1, here a and b. Why it is absent, by the first of these that holds: 25, i is not below the number
+-- of entries; 40, either offset is 0; 41, they descend; 42, they pass the data, which start at `start`.
 unfoldable pub placeBy : ℕ → Extent → ℕ → ℕ → ℕ → Answer Place
-placeBy i x start a b = cond (absent i x start a b) (refused 25 alone) (accepted (record { start = start + (a - 1); size = b - a }))
+placeBy i x start a b =
+    cond (leb (x .entries) i) (refused 25 alone)
+    (cond (eqb a 0 || eqb b 0) (refused 40 alone)
+    (cond (ltb b a) (refused 41 alone)
+    (cond (ltb (x .taken) (start + (b - 1))) (refused 42 alone)
+    (accepted (record { start = start + (a - 1); size = b - a })))))
 
 -- by the offset size z, of an INDEX x
 abbrev pub placeOf : ℕ → List ℕ → Extent → ℕ → ℕ → Answer Place
 placeOf w s x z i = placeBy i x (dataStart w (x .entries) z) (offset w s z i) (offset w s z (i + 1))
 
+-- An INDEX that has not as many entries as its count says has none: its last offset is 0, and that is looked at before the number.
 unfoldable pub placeIn : ℕ → List ℕ → ℕ → Answer Extent → Answer Place
-placeIn w s i (accepted x) = placeOf w s x (getD s w 0) i
+placeIn w s i (accepted x) = cond (eqb (x .entries) (beAt s 0 w)) (placeOf w s x (getD s w 0) i) (refused 40 alone)
 placeIn w s i (refused k v) = refused k v
 
 -- entry i of the INDEX at the start of s
 unfoldable pub place : ℕ → List ℕ → ℕ → Answer Place
 place w s i = placeIn w s i (extent w s)
 
--- Entry i where the count n and the offset size z are known, and s is the INDEX's own bytes: its data end with them. It is absent too where
--- z is not 1 to 4, or offsets are lacking.
+-- Entry i where the count n and the offset size z are known, and s is the INDEX's own bytes: its data end with them. It is 25 too where z is not
+-- 1 to 4, or offsets are lacking.
 unfoldable pub placeSeen : ℕ → List ℕ → ℕ → ℕ → ℕ → Answer Place
 placeSeen w s n z i =
     cond (leb n i || (eqb z 0 || (ltb 4 z || ltb (length s) (dataStart w n z)))) (refused 25 alone)
@@ -132,8 +137,14 @@ indexRead (Read n t) = accepted (record { entries = n; taken = t })
 indexRead Lacking = refused 20 alone
 indexRead BadSize = refused 21 alone
 
+abbrev pub absence : Absence → ℕ
+absence PastCount = 25
+absence ZeroOffset = 40
+absence Descending = 41
+absence PastData = 42
+
 abbrev pub entryRead : EntryRead → Answer Place
 entryRead (Entry a n) = accepted (record { start = a; size = n })
 entryRead NoBytes = refused 20 alone
 entryRead NoSize = refused 21 alone
-entryRead Absent = refused 25 alone
+entryRead (Absent why) = refused (absence why) alone

@@ -11,7 +11,7 @@ use borrow.Author.Tests.{lt-ltb, le-ltb, le-leb, lt-leb, eq-eqb, ne-eqb, ltb-fal
 use Rattle.number.specs.Answer.{Values, Answer, accepted, refused, alone}
 use Rattle.number.specs.BigEndian.{beAt}
 use Rattle.index.specs.Index.{Extent, dataStart, offset, byLast, bySize, byCount, extent}
-use Rattle.index.specs.Index.{Place, absent, placeBy, placeIn, place, bytesBy, part, startBy, partBy}
+use Rattle.index.specs.Index.{Place, placeBy, placeIn, place, bytesBy, part, startBy, partBy}
 use Rattle.index.specs.Code.{offsetOf, dataOf, Headed, reach, Full, Inside}
 use Rattle.index.specs.OffsetLaws.{start-is}
 
@@ -21,6 +21,10 @@ has n t = accepted (record { entries = n; taken = t })
 
 abbrev pub lies : ℕ → ℕ → Answer Place
 lies a m = accepted (record { start = a; size = m })
+
+-- an entry that is refused
+abbrev pub absentFor : ℕ → Answer Place
+absentFor k = refused k alone
 
 -- ---- tests
 
@@ -41,6 +45,15 @@ not-refused e = let z : _≡_ {A = ℕ} 0 1 = cc in omega arith
 pub past : {A : Type 0} (t : Bool) (k : ℕ) (x : Answer A) {y : A} → accepted y ≡ cond t (refused k alone) x → (t ≡ false) × (accepted y ≡ x)
 past true k x e = absurd (not-refused e)
 past false k x e = (refl, e)
+
+-- the same, refused where the test fails
+kept : {A : Type 0} (t : Bool) (k : ℕ) (x : Answer A) {y : A} → accepted y ≡ cond t x (refused k alone) → accepted y ≡ x
+kept true k x e = e
+kept false k x e = absurd (not-refused e)
+
+one-of-two : {A : Type 0} (t : Bool) (j k : ℕ) → _≡_ {A = Answer A} (refused (cond t j k) alone) (cond t (refused j alone) (refused k alone))
+one-of-two true j k = refl
+one-of-two false j k = refl
 
 -- ---- what the bytes of an INDEX are
 
@@ -214,53 +227,80 @@ module _ (w : ℕ) (s : List ℕ) (n t : ℕ) where
 
 -- by its two offsets a and b
 module _ (i : ℕ) (x : Extent) (d a b : ℕ) where
-  pub by-zero : a ≡ 0 → refused 25 alone ≡ placeBy i x d a b
-  unfolding placeBy absent
-  by-zero e = rw (eq-eqb a 0 e, or-true)
+  pub by-zero : i < x .entries → a ≡ 0 → refused 40 alone ≡ placeBy i x d a b
+  unfolding placeBy
+  by-zero h e = rw (lt-leb (x .entries) i h, eq-eqb a 0 e)
 
-  pub by-descent : b < a → refused 25 alone ≡ placeBy i x d a b
-  unfolding placeBy absent
-  by-descent h = simp (lt-ltb b a h, or-true)
+  -- to an offset of 0, or to another
+  pub by-descent : i < x .entries → b < a → refused (cond (eqb b 0) 40 41) alone ≡ placeBy i x d a b
+  unfolding placeBy
+  by-descent h k = let a≢ : a ≡ 0 → ⊥ = λ e. omega arith in rw (lt-leb (x .entries) i h, ne-eqb a 0 a≢, lt-ltb b a k) (one-of-two (eqb b 0) 40 41)
 
-  pub by-passing : x .taken < d + (b - 1) → refused 25 alone ≡ placeBy i x d a b
-  unfolding placeBy absent
-  by-passing h = simp (lt-ltb (x .taken) (d + (b - 1)) h, or-true)
+  pub by-passing : i < x .entries → 0 < a → a ≤ b → x .taken < d + (b - 1) → refused 42 alone ≡ placeBy i x d a b
+  unfolding placeBy
+  by-passing h p k l =
+      let a≢ : a ≡ 0 → ⊥ = λ e. omega arith in
+      let b≢ : b ≡ 0 → ⊥ = λ e. omega arith in
+      rw (lt-leb (x .entries) i h, ne-eqb a 0 a≢, ne-eqb b 0 b≢, le-ltb b a k, lt-ltb (x .taken) (d + (b - 1)) l)
 
   pub by-order : {y m : ℕ} → i < x .entries → 0 < a → a ≤ b → d + (b - 1) ≤ x .taken
       → y ≡ d + (a - 1) → m ≡ b - a → lies y m ≡ placeBy i x d a b
-  unfolding placeBy absent
+  unfolding placeBy
   by-order h p k l at long =
       let a≢ : a ≡ 0 → ⊥ = λ e. omega arith in
       let b≢ : b ≡ 0 → ⊥ = λ e. omega arith in
       rw (at, long, lt-leb (x .entries) i h, ne-eqb a 0 a≢, ne-eqb b 0 b≢, le-ltb b a k, le-ltb (x .taken) (d + (b - 1)) l)
+
+-- the tests behind that of the number refuse with other numbers
+not-25 : (a b c : Bool) (p : Place) (v : Values)
+    → refused 25 v ≡ cond a (refused 40 alone) (cond b (refused 41 alone) (cond c (refused 42 alone) (accepted p))) → ⊥
+not-25 true b c p v e = let z : _≡_ {A = ℕ} 25 40 = cc in omega arith
+not-25 false true c p v e = let z : _≡_ {A = ℕ} 25 41 = cc in omega arith
+not-25 false false true p v e = let z : _≡_ {A = ℕ} 25 42 = cc in omega arith
+not-25 false false false p v e = not-refused (sym e)
+
+pub not-past : (i : ℕ) (x : Extent) (d a b : ℕ) (v : Values) → i < x .entries → refused 25 v ≡ placeBy i x d a b → ⊥
+unfolding placeBy
+not-past i x d a b v h e =
+    not-25 (eqb a 0 || eqb b 0) (ltb b a) (ltb (x .taken) (d + (b - 1))) _ v (rw (lt-leb (x .entries) i h) at e)
 
 module _ (w : ℕ) (s : List ℕ) (i : ℕ) where
   pub not-read : (k : ℕ) → refused k alone ≡ extent w s → refused k alone ≡ place w s i
   unfolding place placeIn
   not-read k e = rw (← e)
 
-  pub past-count : {n t : ℕ} → has n t ≡ extent w s → n ≤ i → refused 25 alone ≡ place w s i
-  unfolding place placeIn placeBy absent
-  past-count {n} e h = rw (← e, le-leb n i h)
+  -- a number that is not below the entries: a count that says otherwise was emptied by a last offset of 0
+  pub past-count : {n t : ℕ} → has n t ≡ extent w s → n ≤ i → refused (cond (eqb n (beAt s 0 w)) 25 40) alone ≡ place w s i
+  unfolding place placeIn placeBy
+  past-count {n} e h = rw (← e, le-leb n i h) (one-of-two (eqb n (beAt s 0 w)) 25 40)
+
+  -- an INDEX that a last offset of 0 emptied has no entry at all
+  pub emptied-place : {n t : ℕ} → has n t ≡ extent w s → (n ≡ beAt s 0 w → ⊥) → refused 40 alone ≡ place w s i
+  unfolding place placeIn
+  emptied-place {n} e c = rw (← e, ne-eqb n (beAt s 0 w) c)
+
+  -- which is said of its bytes: the last offset is 0
+  pub last-zero-place : {n : ℕ} → Headed w s n → offsetOf w s n ≡ 0 → refused 40 alone ≡ place w s i
+  last-zero-place h z = emptied-place (last-zero w s h z) (λ c. let m = h .count in omega arith)
 
   -- between its two offsets
   module _ {n a b : ℕ} (f : Full w s n) (first : a ≡ offsetOf w s i) (next : b ≡ offsetOf w s (i + 1)) where
     pub to-place : placeBy i (record { entries = n; taken = reach w s n }) (dataOf w s n) a b ≡ place w s i
     unfolding place placeIn
-    to-place = rw (← full-read w s f refl, first, next)
+    to-place = rw (← full-read w s f refl, eq-eqb n (beAt s 0 w) (f .head .count), first, next)
 
     -- as the code has it, with the end that the reading found
     pub to-place-by : {t : ℕ} → t ≡ reach w s n → placeBy i (record { entries = n; taken = t }) (dataOf w s n) a b ≡ place w s i
     to-place-by e = ap (λ (t : ℕ). placeBy i (record { entries = n; taken = t }) (dataOf w s n) a b) e ∙ to-place
 
-    pub zero-offset : a ≡ 0 → refused 25 alone ≡ place w s i
-    zero-offset e = by-zero _ _ _ _ _ e ∙ to-place
+    pub zero-offset : i < n → a ≡ 0 → refused 40 alone ≡ place w s i
+    zero-offset h e = by-zero _ _ _ _ _ h e ∙ to-place
 
-    pub descends : b < a → refused 25 alone ≡ place w s i
-    descends h = by-descent _ _ _ _ _ h ∙ to-place
+    pub descends : i < n → b < a → refused (cond (eqb b 0) 40 41) alone ≡ place w s i
+    descends h k = by-descent _ _ _ _ _ h k ∙ to-place
 
-    pub passes : reach w s n < dataOf w s n + (b - 1) → refused 25 alone ≡ place w s i
-    passes h = by-passing _ _ _ _ _ h ∙ to-place
+    pub passes : i < n → 0 < a → a ≤ b → reach w s n < dataOf w s n + (b - 1) → refused 42 alone ≡ place w s i
+    passes h p k l = by-passing _ _ _ _ _ h p k l ∙ to-place
 
     pub present : {x y : ℕ} → i < n → 0 < a → a ≤ b → dataOf w s n + (b - 1) ≤ reach w s n
         → x ≡ dataOf w s n + (a - 1) → y ≡ b - a → lies x y ≡ place w s i
@@ -294,21 +334,20 @@ pub record Between (i : ℕ) (x : Extent) (d a b p m : ℕ) : Type 0 where
   pub long : m ≡ b - a
 
 pub between : (i : ℕ) (x : Extent) (d a b p m : ℕ) → lies p m ≡ placeBy i x d a b → Between i x d a b p m
-unfolding placeBy absent
+unfolding placeBy
 between i x d a b p m h =
-    let g = past (leb (x .entries) i || (eqb a 0 || (eqb b 0 || (ltb b a || ltb (x .taken) (d + (b - 1)))))) 25 _ h in
-    let o1 = or-none (leb (x .entries) i) _ (g .0) in
-    let o2 = or-none (eqb a 0) _ (o1 .1) in
-    let o3 = or-none (eqb b 0) _ (o2 .1) in
-    let o4 = or-none (ltb b a) _ (o3 .1) in
-    let a≢ : a ≡ 0 → ⊥ = eqb-false a 0 (o2 .0) in
+    let counted = past (leb (x .entries) i) 25 _ h in
+    let some = past (eqb a 0 || eqb b 0) 40 _ (counted .1) in
+    let ordered = past (ltb b a) 41 _ (some .1) in
+    let held = past (ltb (x .taken) (d + (b - 1))) 42 _ (ordered .1) in
+    let a≢ : a ≡ 0 → ⊥ = eqb-false a 0 (or-none (eqb a 0) (eqb b 0) (some .0) .0) in
     record {
-      below = leb-false (x .entries) i (o1 .0);
+      below = leb-false (x .entries) i (counted .0);
       first-pos = omega arith;
-      order = ltb-false b a (o4 .0);
-      within = ltb-false (x .taken) (d + (b - 1)) (o4 .1);
-      at = ap start-of (same (g .1));
-      long = ap size-of (same (g .1));
+      order = ltb-false b a (ordered .0);
+      within = ltb-false (x .taken) (d + (b - 1)) (held .0);
+      at = ap start-of (same (held .1));
+      long = ap size-of (same (held .1));
     }
 
 pub between-inside : (i : ℕ) (x : Extent) (d a b : ℕ) (s : List ℕ) → x .taken ≤ length s
@@ -321,7 +360,8 @@ module _ (w : ℕ) (s : List ℕ) (i a m : ℕ) where
   unfolding placeIn
   by-extent n t e h =
       let z = getD s w 0 in
-      let g = between i (record { entries = n; taken = t }) (dataStart w n z) (offset w s z i) (offset w s z (i + 1)) a m h in
+      let there = kept (eqb n (beAt s 0 w)) 40 _ h in
+      let g = between i (record { entries = n; taken = t }) (dataStart w n z) (offset w s z i) (offset w s z (i + 1)) a m there in
       let f = entries-full w s n t e (omega arith) in
       record {
         full = f .0;

@@ -13,7 +13,7 @@ use borrow.Author.Tests.{lt-ltb, le-ltb, le-leb, lt-leb, eq-eqb, ne-eqb, ltb-tru
 use Rattle.number.specs.Answer.{Answer, accepted, refused, alone}
 use Rattle.index.specs.Index.{Extent, Place, dataStart, offset, extent, placeBy, place, placeSeen, partBy, partAt, partSeen, bytesBy, startBy}
 use Rattle.index.specs.Code.{offsetOf, reach, Full, Inside}
-use Rattle.index.specs.IndexLaws.{has, entries-full, taken-le, past-count, to-place-by, between-inside, or-true, past}
+use Rattle.index.specs.IndexLaws.{has, entries-full, taken-le, past-count, to-place-by, between-inside, part-none, or-true, past}
 use Rattle.index.specs.OffsetLaws.{start-mono}
 use Rattle.index.specs.AfterLaws.{offset-after, bytes-after}
 
@@ -71,24 +71,26 @@ module _ (w : ℕ) (s : List ℕ) (n t z i : ℕ) (e : has n t ≡ extent w s) (
   abbrev Same : List ℕ → Type 0
   Same l = Full w l n → length (take t s) ≡ reach w l n → placeSeen w (take t s) n (getD l w 0) i ≡ place w l i
 
-  pub place-seen : placeSeen w (take t s) n z i ≡ place w s i
-  place-seen = go (ltb i n) refl
-    where
-      go : (b : Bool) → ltb i n ≡ b → placeSeen w (take t s) n z i ≡ place w s i
-      go false b =
-          let h = ltb-false i n b in sym (seen-past w (take t s) n z i h) ∙ past-count w s i e h
-      go true b =
-          let h = ltb-true i n b in
-          let f = entries-full w s n t e (omega arith) in
-          let long : length (take t s) ≡ reach w s n = length-take-le t s (taken-le w s n t e) ∙ f .1 in
-          ap (λ (k : ℕ). placeSeen w (take t s) n k i) (sized (omega arith))
-          ∙ subst Same (take-append-drop t s) (same-place w (take t s) (drop t s) n i h) (f .0) long
+  pub place-seen : i < n → placeSeen w (take t s) n z i ≡ place w s i
+  place-seen h =
+      let f = entries-full w s n t e (omega arith) in
+      let long : length (take t s) ≡ reach w s n = length-take-le t s (taken-le w s n t e) ∙ f .1 in
+      ap (λ (k : ℕ). placeSeen w (take t s) n k i) (sized (omega arith))
+      ∙ subst Same (take-append-drop t s) (same-place w (take t s) (drop t s) n i h) (f .0) long
 
+  -- Each part is the plain reader's too; of a number past the entries it is empty, whichever way that is refused.
   pub part-seen : (at : ℕ × ℕ) → partSeen w at (take t s) n z i ≡ partAt w at s i
   unfolding partBy
-  part-seen at =
-      let x = placeSeen w (take t s) n z i in
-      let after = bytes-after (take t s) (drop t s) x (seen-inside w (take t s) n z i x refl) in
-      let kept = subst (λ (l : List ℕ). bytesBy l x ≡ bytesBy (take t s) x) (take-append-drop t s) after in
-      ap (λ (l : List ℕ). record { at = startBy at x; bytes = l }) (sym kept)
-      ∙ ap (λ (y : Answer Place). record { at = startBy at y; bytes = bytesBy s y }) place-seen
+  part-seen at = go (ltb i n) refl
+    where
+      go : (b : Bool) → ltb i n ≡ b → partSeen w at (take t s) n z i ≡ partAt w at s i
+      go false b =
+          let h = ltb-false i n b in
+          ap (partBy at (take t s)) (sym (seen-past w (take t s) n z i h))
+          ∙ sym (part-none at (take t s) 25 alone) ∙ part-none at s _ alone ∙ ap (partBy at s) (past-count w s i e h)
+      go true b =
+          let x = placeSeen w (take t s) n z i in
+          let after = bytes-after (take t s) (drop t s) x (seen-inside w (take t s) n z i x refl) in
+          let kept = subst (λ (l : List ℕ). bytesBy l x ≡ bytesBy (take t s) x) (take-append-drop t s) after in
+          ap (λ (l : List ℕ). record { at = startBy at x; bytes = l }) (sym kept)
+          ∙ ap (λ (y : Answer Place). record { at = startBy at y; bytes = bytesBy s y }) (place-seen (ltb-true i n b))

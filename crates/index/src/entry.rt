@@ -1,4 +1,7 @@
 // An entry of an INDEX: its place, and its bytes where they stand.
+use crate::absence::Absence;
+use crate::absence::behind;
+use crate::absence::below;
 use crate::offset::mask_of;
 use crate::offset::offset_at;
 use crate::read::IndexRead;
@@ -21,8 +24,8 @@ pub enum EntryRead {
     Lacking,
     // The offset size is not 1 to 4.
     BadSize,
-    // There is no such entry.
-    Absent,
+    // It is absent, and why.
+    Absent(Absence),
 }
 
 impl EntryRead {
@@ -34,7 +37,7 @@ impl EntryRead {
             EntryRead::Entry(_, _) => 0,
             EntryRead::Lacking => 20,
             EntryRead::BadSize => 21,
-            EntryRead::Absent => 25,
+            EntryRead::Absent(why) => why.number(),
         }
     }
 }
@@ -48,7 +51,7 @@ pub fn read_entry(s: &[u8], width: Width, number: u32) -> EntryRead
         IndexRead::BadSize => EntryRead::BadSize,
         IndexRead::Read(count, taken) => {
             if count <= number {
-                return EntryRead::Absent;
+                return EntryRead::Absent(behind(s, width, count));
             }
             let bytes = width_of(width);
             entry_between(s, bytes, count, s[bytes] as usize, taken, number)
@@ -62,17 +65,17 @@ pub fn entry_in(s: &[u8], width: Width, count: u32, size: usize, number: u32) ->
     ensures { λ r. ⌜ entryRead r ≡ placeSeen (widthOf width) (now (s .entry)) count size number ⌝ }
 {
     if count <= number {
-        return EntryRead::Absent;
+        return EntryRead::Absent(Absence::PastCount);
     }
     if size == 0 {
-        return EntryRead::Absent;
+        return EntryRead::Absent(Absence::PastCount);
     }
     if 4 < size {
-        return EntryRead::Absent;
+        return EntryRead::Absent(Absence::PastCount);
     }
     let bytes = width_of(width);
     if s.len() < bytes + 1 + (count as usize + 1) * size {
-        return EntryRead::Absent;
+        return EntryRead::Absent(Absence::PastCount);
     }
     entry_between(s, bytes, count, size, s.len(), number)
 }
@@ -95,13 +98,13 @@ fn entry_between(
     let a = offset_at(s, width, size, mask, i);
     let b = offset_at(s, width, size, mask, i + 1);
     if a == 0 {
-        return EntryRead::Absent;
+        return EntryRead::Absent(Absence::ZeroOffset);
     }
     if b < a {
-        return EntryRead::Absent;
+        return EntryRead::Absent(below(b));
     }
     if end < start + (b - 1) {
-        return EntryRead::Absent;
+        return EntryRead::Absent(Absence::PastData);
     }
     EntryRead::Entry(start + (a - 1), b - a)
 }

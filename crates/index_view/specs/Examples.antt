@@ -3,7 +3,7 @@ use mathlib.Core.Path.{_≡_, refl}
 use mathlib.Core.List.{List, [], _∷_}
 use Prim.Native.Nat.{ℕ}
 use Rattle.number.specs.BigEndian.{beAt}
-use Rattle.index.specs.Index.{offset, byLast, bySize, byCount, extent, absent, placeBy, placeSeen, bytesBy, startBy, partBy}
+use Rattle.index.specs.Index.{offset, byLast, bySize, byCount, extent, placeBy, placeSeen, bytesBy, startBy, partBy}
 use Rattle.index.specs.Examples.{two, none}
 use Rattle.index_view.specs.View.{Seen, viewBy, viewOf, viewPart}
 
@@ -24,5 +24,5 @@ pub seen :
     (viewPart 2 (view two 2 1) 0 ≡ record { at = (1, 14); bytes = 0x0E ∷ [] })
     × (viewPart 2 (view two 2 5) 0 ≡ record { at = (1, 8); bytes = [] })
     × (viewPart 2 (view two 9 1) 0 ≡ record { at = (1, 8); bytes = [] })
-unfolding placeSeen partBy startBy bytesBy placeBy absent offset beAt
+unfolding placeSeen partBy startBy bytesBy placeBy offset beAt
 seen = (refl, refl, refl)

@@ -7,7 +7,7 @@ use lib.Dec.{eqb}
 use borrow.Fn.Kinds.{Dens, resT, endedOf}
 use contract.Lifetimes.{Lfts}
 use denote.Triple.Clauses.{AtExit}
-use Rattle.number.specs.Answer.{Values, alone, atToken, needing, needingAt, Answer, accepted, refused, Outcome}
+use Rattle.number.specs.Answer.{Answer, accepted, refused, lengthOr, Outcome}
 use Rattle.index_writing.specs.Writing.{indexWritten}
 use Rattle.index_writing.specs.declared.IndexWritten.{IndexWritten}
 use Rattle.index_writing.specs.declared.IndexWritten.the-variants.{Bytes, NoRoom, TooMany, TooLong, Mismatch}
@@ -16,20 +16,13 @@ use Rattle.index_writing.proofs.IndexWritten.number.Reads as number-rea
 use Rattle.index_writing.proofs.write_index.Kinds as kinds
 use Rattle.index_writing.proofs.write_index.Reads as reads
 
--- the length that is needed, where one comes with the refusal
-length-in : Values → ℕ
-length-in alone = 0
-length-in (atToken n) = 0
-length-in (needing n) = n
-length-in (needingAt n t) = n
-
 -- the way back, from what an answer says to the answer
 written-of : Answer ℕ → IndexWritten
 written-of (accepted n) = Bytes n
-written-of (refused k v) = cond (eqb k 13) (NoRoom (length-in v)) (cond (eqb k 22) TooMany (cond (eqb k 23) TooLong Mismatch))
+written-of (refused k v) = cond (eqb k 13) (NoRoom (lengthOr 0 v)) (cond (eqb k 22) TooMany (cond (eqb k 23) TooLong Mismatch))
 
 written-undo : (r : IndexWritten) → written-of (indexWritten r) ≡ r
-unfolding written-of length-in
+unfolding written-of
 written-undo (Bytes n) = refl
 written-undo (NoRoom n) = refl
 written-undo TooMany = refl

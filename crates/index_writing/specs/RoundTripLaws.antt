@@ -17,7 +17,7 @@ use Rattle.index.specs.Index.{dataStart, offset, extent, place, part}
 use Rattle.index.specs.Code.{Headed, reach, Full}
 use Rattle.index.specs.IndexLaws.{has, lies, not-refused, Held, full-read, held-place, part-is, count-zero}
 use Rattle.index.specs.OffsetLaws.{start-is}
-use Rattle.index.specs.Formed.{yes, formation}
+use Rattle.index.specs.Formed.{formation}
 use Rattle.index.specs.FormedLaws.{formed-yes}
 use Rattle.index.specs.AfterLaws.{read-after, part-after, formation-after}
 use Rattle.index_writing.specs.Writing.{total, element, sizeFor, offsets, indexBytes, indexOf, writeIndex}
@@ -189,7 +189,7 @@ module _ (w : ℕ) (ls joined : List ℕ) (can : Writable w ls joined) where
     pub part-written : (i : ℕ) → i < length ls → part w (bytes ++ rest) i ≡ element ls joined i
     part-written i h = part-after bytes rest w read-back i ∙ part-back i h
 
-    pub formed-written : yes (length ls) ≡ formation w (bytes ++ rest)
+    pub formed-written : accepted (length ls) ≡ formation w (bytes ++ rest)
     formed-written =
         formed-yes w bytes (record { taken = length bytes; read = read-back; count = sym count-back; entry = λ i h. (_, place-back i h) })
         ∙ sym (formation-after bytes rest w read-back)
@@ -207,7 +207,7 @@ pub record Written (w : ℕ) (ls joined out : List ℕ) (n : ℕ) (l : List ℕ)
 pub record Back (w : ℕ) (ls joined : List ℕ) (n : ℕ) (l : List ℕ) : Type 0 where
   pub read : has (length ls) n ≡ extent w l
   pub parts : (i : ℕ) → i < length ls → part w l i ≡ element ls joined i
-  pub formed : yes (length ls) ≡ formation w l
+  pub formed : accepted (length ls) ≡ formation w l
 
 module _ (w : ℕ) (ls joined : List ℕ) where
   index-accepted : (b : List ℕ) → accepted b ≡ indexOf w ls joined → Writable w ls joined × (b ≡ indexBytes w ls joined)

@@ -5,12 +5,15 @@ use mathlib.Core.List.{List, _++_}
 use lib.Dec.{leb}
 use lib.ListN.{length, drop}
 
--- What comes with a refusal: nothing; the tokens run; the length that is needed; or that length and the tokens.
+-- What comes with a refusal: nothing; the tokens run; the length that is needed; that length and the tokens; the number of an entry; or the
+-- refusal that is its reason, with what comes with that one.
 pub data Values : Type 0 where
   alone : Values
   atToken : ℕ → Values
   needing : ℕ → Values
   needingAt : ℕ → ℕ → Values
+  atEntry : ℕ → Values
+  because : ℕ → Values → Values
 
 -- Accepted, which is number 0, with what is given back; or refused, with the number and the values that come with it.
 pub data Answer (A : Type 0) : Type 0 where
@@ -27,18 +30,38 @@ abbrev pub mapped : {A B : Type 0} → (A → B) → Answer A → Answer B
 mapped f (accepted x) = accepted (f x)
 mapped f (refused n v) = refused n v
 
--- the length that comes with a refusal, and the tokens, or what was there before
+-- the length that comes with a refusal, the tokens, the entry and the reason, or what was there before
 abbrev pub lengthOr : ℕ → Values → ℕ
 lengthOr old alone = old
 lengthOr old (atToken t) = old
 lengthOr old (needing n) = n
 lengthOr old (needingAt n t) = n
+lengthOr old (atEntry i) = old
+lengthOr old (because k v) = old
 
 abbrev pub tokensOr : ℕ → Values → ℕ
 tokensOr old alone = old
 tokensOr old (atToken t) = t
 tokensOr old (needing n) = old
 tokensOr old (needingAt n t) = t
+tokensOr old (atEntry i) = old
+tokensOr old (because k v) = old
+
+unfoldable pub entryOr : ℕ → Values → ℕ
+entryOr old alone = old
+entryOr old (atToken t) = old
+entryOr old (needing n) = old
+entryOr old (needingAt n t) = old
+entryOr old (atEntry i) = i
+entryOr old (because k v) = entryOr old v
+
+abbrev pub reasonOr : ℕ → Values → ℕ
+reasonOr old alone = old
+reasonOr old (atToken t) = old
+reasonOr old (needing n) = old
+reasonOr old (needingAt n t) = old
+reasonOr old (atEntry i) = old
+reasonOr old (because k v) = k
 
 -- ---- bytes that are lent
 

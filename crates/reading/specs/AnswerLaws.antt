@@ -5,7 +5,7 @@ use Prim.Native.Nat.{ℕ, _<_, _≤_}
 use lib.ListN.{length, drop}
 use Rattle.number.specs.Answer.{Answer, accepted, refused, atToken, Outcome, leaving, Ready, into}
 use Rattle.number.specs.AnswerLaws.{refused-accepted, accepted-same, answer-as, Placed, into-accepted}
-use Rattle.index.specs.Formed.{Formation, yes, unread, emptied, bad, formation}
+use Rattle.index.specs.Formed.{formation}
 use Rattle.reading.specs.Rules.{Rules}
 use Rattle.reading.specs.Lists.{listsOf}
 use Rattle.reading.specs.Reading.{Ending, back, ended, stopped, Accepted, Run, tokensBy, tokens, reading, original}
@@ -17,17 +17,15 @@ use Rattle.reading.specs.TighterLaws.{Tighter, tighter-reading}
 
 -- past a list that is well formed, whatever comes then
 module _ (k : ℕ) (out : List ℕ) (y : Outcome (Answer Flattening)) (x : Flattening) where
-  gate-alike : (f : Formation) → listGate k out f y .answer ≡ accepted x → (z : Outcome (Answer Flattening)) → listGate k out f z ≡ z
+  gate-alike : (f : Answer ℕ) → listGate k out f y .answer ≡ accepted x → (z : Outcome (Answer Flattening)) → listGate k out f z ≡ z
   unfolding listGate
-  gate-alike (yes n) e z = refl
-  gate-alike (unread n) e z = refused-accepted e
-  gate-alike emptied e z = refused-accepted e
-  gate-alike (bad i) e z = refused-accepted e
+  gate-alike (accepted n) e z = refl
+  gate-alike (refused j v) e z = refused-accepted e
 
-  gate-past : (f : Formation) → listGate k out f y .answer ≡ accepted x → listGate k out f y ≡ y
+  gate-past : (f : Answer ℕ) → listGate k out f y .answer ≡ accepted x → listGate k out f y ≡ y
   gate-past f e = gate-alike f e y
 
-pub gate-open : (k : ℕ) (out : List ℕ) (f : Formation) (n : ℕ) → f ≡ yes n → (y : Outcome (Answer Flattening)) → listGate k out f y ≡ y
+pub gate-open : (k : ℕ) (out : List ℕ) (f : Answer ℕ) (n : ℕ) → f ≡ accepted n → (y : Outcome (Answer Flattening)) → listGate k out f y ≡ y
 unfolding listGate
 gate-open k out f n e y = rw e
 

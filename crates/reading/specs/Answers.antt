@@ -2,8 +2,8 @@
 use Prim.Native.Nat.{ℕ}
 use mathlib.Core.List.{List}
 use lib.ListN.{length}
-use Rattle.number.specs.Answer.{Answer, accepted, refused, alone, atToken, needingAt, mapped, Outcome, leaving, Ready, into}
-use Rattle.index.specs.Formed.{Formation, yes, unread, emptied, bad, formation}
+use Rattle.number.specs.Answer.{Answer, accepted, refused, atToken, needingAt, because, mapped, Outcome, leaving, Ready, into}
+use Rattle.index.specs.Formed.{formation, reasonOf, reasonAt}
 use Rattle.reading.specs.Rules.{Rules}
 use Rattle.reading.specs.Reading.{Ending, back, ended, stopped, Run, struck, tokens, original}
 use Rattle.reading.specs.Flat.{flat}
@@ -44,12 +44,10 @@ outcome out r = into out (readyBy r (r .how))
 
 -- ---- flattening: both lists are looked at first
 
--- refused with k unless the list is well formed
-unfoldable pub listGate : ℕ → List ℕ → Formation → Outcome (Answer Flattening) → Outcome (Answer Flattening)
-listGate k out (yes n) then = then
-listGate k out (unread n) then = leaving (refused k alone) out
-listGate k out emptied then = leaving (refused k alone) out
-listGate k out (bad i) then = leaving (refused k alone) out
+-- refused with k unless the list is well formed, and its own refusal is the reason
+unfoldable pub listGate : ℕ → List ℕ → Answer ℕ → Outcome (Answer Flattening) → Outcome (Answer Flattening)
+listGate k out (accepted n) then = then
+listGate k out (refused j v) then = leaving (refused k (because j v)) out
 
 unfoldable pub flattening : Rules → List ℕ → List ℕ → List ℕ → ℕ → List ℕ → Outcome (Answer Flattening)
 flattening rules cs globals locals budget out =
@@ -73,7 +71,7 @@ numberOf Composite = 12
 
 abbrev pub flattened : Flattened → Answer Flattening
 flattened (Accepted n t) = accepted (record { size = n; tokens = t })
-flattened BadGlobals = refused 1 alone
-flattened BadLocals = refused 2 alone
+flattened (BadGlobals f) = refused 1 (because (reasonOf f) (reasonAt f))
+flattened (BadLocals f) = refused 2 (because (reasonOf f) (reasonAt f))
 flattened (Refused k t) = refused (numberOf k) (atToken t)
 flattened (NoRoom n t) = refused 13 (needingAt n t)

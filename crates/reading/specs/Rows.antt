@@ -4,14 +4,14 @@ use mathlib.Core.List.{List, [], _∷_, _++_}
 use mathlib.Core.Bool.{Bool, true, false}
 use Prim.Native.Nat.{ℕ}
 use lib.ListN.{length, drop, replicate}
-use Rattle.number.specs.Answer.{Values, alone, atToken, needingAt, Answer, accepted, refused, Outcome, leaving, into}
+use Rattle.number.specs.Answer.{Values, alone, atToken, needingAt, atEntry, because, Answer, accepted, refused, Outcome, leaving, into}
 use Rattle.number.specs.BigEndian.{beAt, bytesOf}
 use Rattle.number.specs.Signed.{signed, unsigned}
 use Rattle.number.specs.Number.{integerRows, rowsOf, rowOf, valueBy, numberBy, readBy}
 use Rattle.number.specs.Written.{formBy, spell, bytes, bytesBy, spelling}
 use Rattle.number.specs.Call.{bitLength, counts, callIndex, entryOf, biased, callee}
-use Rattle.index.specs.Index.{offset, byLast, bySize, byCount, extent, absent, placeBy, placeIn, place, bytesBy as partBytes, part}
-use Rattle.index.specs.Formed.{entriesFrom, formedBy, formation}
+use Rattle.index.specs.Index.{offset, byLast, bySize, byCount, extent, placeBy, placeIn, place, bytesBy as partBytes, part}
+use Rattle.index.specs.Formed.{unless, entriesFrom, formedBy, formation}
 use Rattle.index.specs.declared.width.Width.the-variants.{Four}
 use Rattle.reading.specs.Rules.{Rules, byteKind, escapedKind, kindBy, type2, plain, strict, meant}
 use Rattle.reading.specs.declared.Rules.{Rules as CodeRules}
@@ -106,12 +106,9 @@ chain =
     ∷ 0x0E ∷ 0x20 ∷ 0x0A ∷ 0x21 ∷ 0x0A ∷ 0x22 ∷ 0x0A ∷ 0x23 ∷ 0x0A ∷ 0x24 ∷ 0x0A ∷ 0x25
     ∷ 0x0A ∷ 0x26 ∷ 0x0A ∷ 0x27 ∷ 0x0A ∷ 0x28 ∷ 0x0A ∷ []
 
--- a list whose one entry has an offset of 0, and one that its last offset empties
-abbrev absentEntry : List ℕ
-absentEntry = 0x00 ∷ 0x01 ∷ 0x01 ∷ 0x00 ∷ 0x01 ∷ []
-
-abbrev emptiedList : List ℕ
-emptiedList = 0x00 ∷ 0x01 ∷ 0x01 ∷ 0x00 ∷ 0x00 ∷ []
+-- a list of three entries with these offsets, and three bytes of data
+abbrev offsets : ℕ → ℕ → ℕ → ℕ → List ℕ
+offsets a b c d = 0x00 ∷ 0x03 ∷ 0x01 ∷ a ∷ b ∷ c ∷ d ∷ 0x0B ∷ 0x0B ∷ 0x0B ∷ []
 
 -- what those rows miss
 abbrev pub more : List Row
@@ -134,13 +131,14 @@ more =
     -- budget 6 is enough where running out is no token, and 5 is not
     ∷ within plain 6 32 (0x20 ∷ 0x0A ∷ []) none L (gives (0x8C ∷ 0x8D ∷ 0x15 ∷ []) 6)
     ∷ within plain 5 32 (0x20 ∷ 0x0A ∷ []) none L (refuses 3 (atToken 5))
-    -- a list that is not well formed: unread, the global one first; with an entry that is absent; emptied by a last offset of 0
-    ∷ within plain 0 32 [] [] [] (refuses 1 alone)
-    ∷ within plain 0 32 [] none [] (refuses 2 alone)
-    ∷ within plain 0 32 [] absentEntry absentEntry (refuses 1 alone)
-    ∷ within plain 0 32 [] none absentEntry (refuses 2 alone)
-    ∷ within plain 0 32 [] emptiedList none (refuses 1 alone)
-    ∷ within plain 0 32 [] none emptiedList (refuses 2 alone)
+    -- a list that is not well formed: unread, the global one first; with a first bad entry, for each reason; emptied by a last offset of 0
+    ∷ within plain 0 32 [] [] (offsets 0 2 3 4) (refuses 1 (because 20 alone))
+    ∷ within plain 0 32 [] none (0x00 ∷ 0x01 ∷ 0x05 ∷ []) (refuses 2 (because 21 alone))
+    ∷ within plain 0 32 [] (offsets 1 2 0 4) (offsets 0 2 3 4) (refuses 1 (because 40 (atEntry 1)))
+    ∷ within plain 0 32 [] (offsets 9 5 0 4) none (refuses 1 (because 41 (atEntry 0)))
+    ∷ within plain 0 32 [] none (offsets 1 3 2 4) (refuses 2 (because 41 (atEntry 1)))
+    ∷ within plain 0 32 [] none (offsets 1 2 5 4) (refuses 2 (because 42 (atEntry 1)))
+    ∷ within plain 0 32 [] none (offsets 1 1 1 0) (refuses 2 (because 40 (atEntry 0)))
     ∷ []
 
 -- plain, without a level below the charstring
@@ -206,13 +204,13 @@ pub rows-hold : All starred × All more × All competing × All thirds
 unfolding expectedBy into readyBy outcome listGate flattening
     beAt bytesOf signed unsigned integerRows rowsOf rowOf valueBy numberBy readBy formBy spell bytes bytesBy spelling
     bitLength counts callIndex entryOf biased callee
-    offset byLast bySize byCount extent absent placeBy placeIn place partBytes part entriesFrom formedBy formation
+    offset byLast bySize byCount extent placeBy placeIn place partBytes part unless entriesFrom formedBy formation
     byteKind escapedKind kindBy countIn entryBy subrsOf listsOf escapedAt operatorAt cutBy cut
     struck tokensBy endsInOperand admitted onNumber onStem onMask onEnd onEntry onIndex onCall onOperator onCut onToken
     resume after tokensOf read reading spelled flat
 rows-hold = (
   (refl, (refl, (refl, (refl, (refl, (refl, (refl, (refl, (refl, (refl, (refl, (refl, (refl, (refl, (refl, tt))))))))))))))),
-  (refl, (refl, (refl, (refl, (refl, (refl, (refl, (refl, (refl, (refl, (refl, (refl, (refl, (refl, (refl, tt))))))))))))))),
+  (refl, (refl, (refl, (refl, (refl, (refl, (refl, (refl, (refl, (refl, (refl, (refl, (refl, (refl, (refl, (refl, tt)))))))))))))))),
   (refl, (refl, (refl, (refl, (refl, (refl, (refl, (refl, tt)))))))),
   (refl, (refl, (refl, (refl, tt)))),
 )

@@ -12,7 +12,7 @@ use lib.Dec.{eqb, lit<}
 use Rattle.number.specs.Answer.{Answer, accepted, refused, Outcome, leaving, into}
 use Rattle.number.specs.AnswerLaws.{into-fits}
 use Rattle.index.specs.Index.{Place, extent, byCount, place, bytesBy, part}
-use Rattle.index.specs.Formed.{yes, emptied, entriesFrom, formedBy, formation}
+use Rattle.index.specs.Formed.{entriesFrom, formedBy, formation}
 use Rattle.number.specs.BigEndian.{beAt}
 use Rattle.reading.specs.Rules.{Rules}
 use Rattle.reading.specs.Lists.{Lists, present, entryBy, subrsOf, listsOf}
@@ -103,13 +103,12 @@ zeros-extent w =
     let long : length (zeros w) ≡ w = length-replicate {A = ℕ} w 0 in
     rw (le-ltb (length (zeros w)) w (omega arith), zeros-count w w)
 
-zeros-formed : (w : ℕ) → formation w (zeros w) ≡ yes 0
+zeros-formed : (w : ℕ) → formation w (zeros w) ≡ accepted 0
 unfolding formation formedBy entriesFrom
 zeros-formed w =
-    ap (formedBy w (zeros w)) (zeros-extent w)
-    ∙ ap (λ (n : ℕ). cond (eqb 0 n) (entriesFrom w (zeros w) 0 0) emptied) (zeros-count w w)
+    ap (formedBy w (zeros w)) (zeros-extent w) ∙ ap (entriesFrom w (zeros w) 0) (zeros-count w w)
 
-pub empty-formed : (rules : Rules) → formation (rules .width) (empty rules) ≡ yes 0
+pub empty-formed : (rules : Rules) → formation (rules .width) (empty rules) ≡ accepted 0
 empty-formed rules = zeros-formed (rules .width)
 
 abbrev gives : List Item → List ℕ → Outcome (Answer Flattening)

@@ -1,5 +1,6 @@
 // The words of the call-following reading, as the code above uses them: what an operator is, what
 // a profile is, and what flattening answers. The reading itself is a definition, in specs/.
+use index::Flaw;
 use index::Width;
 ghost use mathlib.Core.Path.{_≡_};
 ghost use Rattle.number.specs.Answer.{numberIn};
@@ -116,10 +117,10 @@ pub fn number_of(why: Refusal) -> u32
 pub enum Flattened {
     // Accepted: the length of the flat string, and the tokens.
     Accepted(usize, u32),
-    // The global list is not well formed.
-    BadGlobals,
-    // The local list is not well formed.
-    BadLocals,
+    // The global list is not well formed, and why.
+    BadGlobals(Flaw),
+    // The local list is not well formed, and why.
+    BadLocals(Flaw),
     // The run was refused at this token.
     Refused(Refusal, u32),
     // The flat string has this length, which is more than the room; and the tokens.
@@ -133,8 +134,8 @@ impl Flattened {
     {
         match self {
             Flattened::Accepted(_, _) => 0,
-            Flattened::BadGlobals => 1,
-            Flattened::BadLocals => 2,
+            Flattened::BadGlobals(_) => 1,
+            Flattened::BadLocals(_) => 2,
             Flattened::Refused(why, _) => number_of(why),
             Flattened::NoRoom(_, _) => 13,
         }

@@ -3,10 +3,11 @@ use mathlib.Core.List.{List, [], _∷_}
 use Prim.Native.Nat.{ℕ}
 use types.Run.{OneOf, miss}
 use denote.Enum.Declared.{tagOf}
-use Rattle.number.specs.Answer.{Answer, refused, alone, Outcome, leaving}
-use Rattle.index.specs.Formed.{Formation, formed, formation}
+use Rattle.number.specs.Answer.{Answer, refused, because, Outcome, leaving}
+use Rattle.index.specs.Formed.{formation, reasonOf, reasonAt, formed}
 use Rattle.index.specs.declared.list.Formed.{Formed}
-use Rattle.index.specs.declared.list.Formed.the-variants.{Yes, Lacking, BadSize, Emptied, Bad}
+use Rattle.index.specs.declared.list.Formed.the-variants.{Yes, No}
+use Rattle.index.specs.declared.list.Flaw.{Flaw}
 use Rattle.index.proofs.list.Formed as formed-type
 use Rattle.reading.specs.Rules.{Rules, rulesOf}
 use Rattle.reading.specs.Reading.{original}
@@ -16,75 +17,79 @@ use borrow.Author.Needs.{needs}
 use Rattle.charstring.proofs.flattening.flatten.Statement.{statement}
 use Rattle.charstring.proofs.flattening.flatten.Tie as tie
 
--- a list that is not well formed, by each of its reasons
-shut : (k : ℕ) (out : List ℕ) (f : Formation) (then : Outcome (Answer Flattening)) (r : Formed)
-    → OneOf (1 ∷ 2 ∷ 3 ∷ 4 ∷ []) (tagOf formed-type.the-type r) → formed r ≡ f → leaving (refused k alone) out ≡ listGate k out f then
+-- a list that is not well formed, by its flaw
+shut : (k : ℕ) (out : List ℕ) (x : Answer ℕ) (then : Outcome (Answer Flattening)) (r : Formed) (f : Flaw)
+    → r ≡ No f → formed r ≡ x → leaving (refused k (because (reasonOf f) (reasonAt f))) out ≡ listGate k out x then
 unfolding listGate
-shut k out f then (Yes n) h e = absurd (miss (1 ∷ 2 ∷ 3 ∷ 4 ∷ []) 0 tt h)
-shut k out f then Lacking h e = ap (λ (g : Formation). listGate k out g then) e
-shut k out f then BadSize h e = ap (λ (g : Formation). listGate k out g then) e
-shut k out f then Emptied h e = ap (λ (g : Formation). listGate k out g then) e
-shut k out f then (Bad i) h e = ap (λ (g : Formation). listGate k out g then) e
+shut k out x then r f e h = ap (λ (y : Answer ℕ). listGate k out y then) (ap formed (sym e) ∙ h)
 
-opened : (k : ℕ) (out : List ℕ) (f : Formation) (then : Outcome (Answer Flattening)) (r : Formed)
-    → OneOf (0 ∷ []) (tagOf formed-type.the-type r) → formed r ≡ f → then ≡ listGate k out f then
-opened k out f then (Yes n) h e = sym (gate-open k out f n (sym e) then)
-opened k out f then Lacking h e = absurd (miss (0 ∷ []) 1 tt h)
-opened k out f then BadSize h e = absurd (miss (0 ∷ []) 2 tt h)
-opened k out f then Emptied h e = absurd (miss (0 ∷ []) 3 tt h)
-opened k out f then (Bad i) h e = absurd (miss (0 ∷ []) 4 tt h)
+opened : (k : ℕ) (out : List ℕ) (x : Answer ℕ) (then : Outcome (Answer Flattening)) (r : Formed)
+    → OneOf (0 ∷ []) (tagOf formed-type.the-type r) → formed r ≡ x → then ≡ listGate k out x then
+opened k out x then (Yes n) h e = sym (gate-open k out x n (sym e) then)
+opened k out x then (No f) h e = absurd (miss (0 ∷ []) 1 tt h)
 
 -- at the width that the rules have
 formed-by : (list : List ℕ) (x y : Rules) (r : Formed) → x ≡ y → formed r ≡ formation (x .width) list → formed r ≡ formation (y .width) list
 formed-by list x y r e q = q ∙ ap (λ (z : Rules). formation (z .width) list) e
 
-globals-formed : (c : tie.After-well-formed)
+globals-formed : (c : tie.After-check-list)
     → let args = c .before .before .before .before .before .before .args in
-    formed (c .well-formed .result) ≡ formation (rulesOf (args .profile) .width) (args .globals .now)
-globals-formed c = formed-by _ _ _ (c .well-formed .result) (c .before .rules-of .ensures) (c .well-formed .ensures)
+    formed (c .check-list .result) ≡ formation (rulesOf (args .profile) .width) (args .globals .now)
+globals-formed c = formed-by _ _ _ (c .check-list .result) (c .before .rules-of .ensures) (c .check-list .ensures)
 
-locals-formed : (c : tie.After-well-formed2)
+locals-formed : (c : tie.After-check-list2)
     → let args = c .before .before .before .before .before .before .before .before .before .args in
-    formed (c .well-formed2 .result) ≡ formation (rulesOf (args .profile) .width) (args .locals .now)
-locals-formed c = formed-by _ _ _ (c .well-formed2 .result) (c .before .before .before .before .rules-of .ensures) (c .well-formed2 .ensures)
+    formed (c .check-list2 .result) ≡ formation (rulesOf (args .profile) .width) (args .locals .now)
+locals-formed c = formed-by _ _ _ (c .check-list2 .result) (c .before .before .before .before .rules-of .ensures) (c .check-list2 .ensures)
 
 -- both lists are well formed
-both : (c : tie.At-match2-keys1)
+both : (c : tie.At-match2-keys2)
     → let args = c .before .before .before .before .before .before .before .before .before .before .args in
     let then = outcome (args .out .now) (original (rulesOf (args .profile)) (args .cs .now) (args .globals .now) (args .locals .now) (args .budget)) in
     then ≡ flattening (rulesOf (args .profile)) (args .cs .now) (args .globals .now) (args .locals .now) (args .budget) (args .out .now)
 unfolding flattening
 both c =
-    opened 2 _ _ _ (c .before .well-formed2 .result) (c .match2 .keys1) (locals-formed (c .before))
-    ∙ opened 1 _ _ _ (c .before .before .before .before .well-formed .result) (c .before .before .before .match .keys1)
+    opened 2 _ _ _ (c .before .check-list2 .result) (c .match2 .keys2) (locals-formed (c .before))
+    ∙ opened 1 _ _ _ (c .before .before .before .before .check-list .result) (c .before .before .before .match .keys2)
     (globals-formed (c .before .before .before .before))
 
 rules-of-requires : tie.Need-rules-of-requires
 rules-of-requires c κs = search needs
 
-well-formed-requires : tie.Need-well-formed-requires
-well-formed-requires c κs = search needs
+check-list-requires : tie.Need-check-list-requires
+check-list-requires c κs = search needs
+
+enum-known-flaw : tie.Need-enum-known-flaw
+enum-known-flaw c = search needs
+
+returns : tie.Need-returns
+unfolding flattening
+returns c =
+    let at-flaw = c .before in
+    let globals = at-flaw .before .before in
+    shut 1 _ _ _ (globals .check-list .result) (at-flaw .flaw .given .0 .0) (at-flaw .flaw .given .1) (globals-formed globals)
 
 enum-told : tie.Need-enum-told
 enum-told c = search needs
 
-returns : tie.Need-returns
-unfolding flattening
-returns c = shut 1 _ _ _ (c .before .well-formed .result) (c .match .keys2) (globals-formed (c .before))
+check-list-requires-2 : tie.Need-check-list-requires-2
+check-list-requires-2 c κs = search needs
 
-well-formed-requires-2 : tie.Need-well-formed-requires-2
-well-formed-requires-2 c κs = search needs
-
-enum-told-2 : tie.Need-enum-told-2
-enum-told-2 c = search needs
+enum-known-flaw-2 : tie.Need-enum-known-flaw-2
+enum-known-flaw-2 c = search needs
 
 returns-2 : tie.Need-returns-2
 unfolding flattening
 returns-2 c =
-    let at-match = c .before .before .before in
+    let at-flaw = c .before in
+    let locals = at-flaw .before .before in
+    let at-match = locals .before .before in
     let globals = at-match .before in
-    shut 2 _ _ _ (c .before .well-formed2 .result) (c .match2 .keys2) (locals-formed (c .before))
-    ∙ opened 1 _ _ _ (globals .well-formed .result) (at-match .match .keys1) (globals-formed globals)
+    shut 2 _ _ _ (locals .check-list2 .result) (at-flaw .flaw2 .given .0 .0) (at-flaw .flaw2 .given .1) (locals-formed locals)
+    ∙ opened 1 _ _ _ (globals .check-list .result) (at-match .match .keys2) (globals-formed globals)
+
+enum-told-2 : tie.Need-enum-told-2
+enum-told-2 c = search needs
 
 write-requires : tie.Need-write-requires
 write-requires c κs = search needs
@@ -100,12 +105,14 @@ flatten-spec =
     tie.close
     (tie.spec
     rules-of-requires
-    well-formed-requires
-    enum-told
+    check-list-requires
+    enum-known-flaw
     returns
-    well-formed-requires-2
-    enum-told-2
+    enum-told
+    check-list-requires-2
+    enum-known-flaw-2
     returns-2
+    enum-told-2
     write-requires
     same-length
     returns-3)

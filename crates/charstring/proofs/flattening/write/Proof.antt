@@ -24,8 +24,8 @@ Refusals = 1 ∷ 2 ∷ 3 ∷ 4 ∷ []
 refused-so : (out : List ℕ) (x : Run) (r : Flattened) → OneOf Refusals (tagOf flattened-type.the-type r) → flattened r ≡ verdict x
     → leaving (flattened r) out ≡ outcome out x
 refused-so out x (Accepted n t) k e = absurd (miss Refusals 0 tt k)
-refused-so out x BadGlobals k e = by-refusal out x _ _ e
-refused-so out x BadLocals k e = by-refusal out x _ _ e
+refused-so out x (BadGlobals f) k e = by-refusal out x _ _ e
+refused-so out x (BadLocals f) k e = by-refusal out x _ _ e
 refused-so out x (Refused w t) k e = by-refusal out x _ _ e
 refused-so out x (NoRoom n t) k e = by-refusal out x _ _ e
 

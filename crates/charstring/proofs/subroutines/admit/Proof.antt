@@ -22,7 +22,7 @@ none-read : (levels tail : ℕ) (x : Answer Place) (r : EntryRead) → OneOf (1 
 none-read levels tail x (Entry a n) k e = absurd (miss (1 ∷ 2 ∷ 3 ∷ []) 0 tt k)
 none-read levels tail x Lacking k e = no-entry levels tail _ _ x e
 none-read levels tail x BadSize k e = no-entry levels tail _ _ x e
-none-read levels tail x Absent k e = no-entry levels tail _ _ x e
+none-read levels tail x (Absent why) k e = no-entry levels tail _ _ x e
 
 -- where the entry is bound
 lies-at : (c : tie.After-start)

@@ -1,11 +1,15 @@
 -- `ighzamrel_flatten` tells what `flatten` answers, and leaves what it leaves. Assumes nothing.
-use Rattle.ighzamrel.specs.Told.{profileOf, tell}
-use Rattle.ighzamrel.specs.ToldLaws.{tell-left, number-as}
-use Rattle.number.specs.Answer.{Answer, Outcome, leaving}
+use Rattle.ighzamrel.specs.Told.{FlatPlaces, flatPlacesOr, profileOf, told, tell}
+use Rattle.ighzamrel.specs.ToldLaws.{tell-left}
+use Rattle.number.specs.Answer.{Answer, because, entryOr, Outcome, leaving}
+use Rattle.index.specs.Formed.{reasonOf, reasonAt}
+use Rattle.index.specs.declared.list.Flaw.{Flaw}
 use Rattle.reading.specs.Answers.{Flattening, flattened, flattening}
 use Rattle.reading.specs.Rules.{rulesOf}
 use Rattle.reading.specs.declared.Profile.{Profile}
 use mathlib.Core.Path.{_≡_, ap, _∙_}
+use mathlib.Core.List.{List}
+use Prim.Native.Nat.{ℕ}
 use borrow.Author.Needs.{needs}
 use Rattle.ighzamrel.proofs.flattening.ighzamrel_flatten.Statement.{statement}
 use Rattle.ighzamrel.proofs.flattening.ighzamrel_flatten.Tie as tie
@@ -22,6 +26,18 @@ asked : (c : tie.After-flatten)
     → leaving (flattened (c .flatten .result)) (c .flatten .last .1 .1 .1 .1 .1 .0) ≡ asks c (profileOf (start c .args .profile))
 asked c = c .flatten .ensures ∙ ap (asks c) (c .before .before .profile-of .ensures)
 
+-- the places as lent
+abbrev before : tie.Start → FlatPlaces
+before c =
+    let a = c .args in record { length = a .length .now; tokens = a .tokens .now; entry = a .entry .now; reason = a .reason .now }
+
+-- what is told of a list's flaw: the entry i that comes with it, and its number k
+bad-list : (n : ℕ) (left : List ℕ) (old : FlatPlaces) (f : Flaw) {i k : ℕ} → i ≡ entryOr (old .entry) (reasonAt f) → k ≡ reasonOf f
+    → leaving (told n (record { length = old .length; tokens = old .tokens; entry = i; reason = k })) left
+    ≡ leaving (told n (flatPlacesOr old (because (reasonOf f) (reasonAt f)))) left
+unfolding entryOr
+bad-list n left old f p q = rw (p, q)
+
 profile-of-requires : tie.Need-profile-of-requires
 profile-of-requires c κs = search needs
 
@@ -34,26 +50,32 @@ enum-known-flattened c = search needs
 number-requires : tie.Need-number-requires
 number-requires c κs = search needs
 
-enum-told : tie.Need-enum-told
-enum-told c = search needs
+enum-known-flattened-2 : tie.Need-enum-known-flattened-2
+enum-known-flattened-2 c = search needs
+
+tell-flaw-requires : tie.Need-tell-flaw-requires
+tell-flaw-requires c κs = search needs
 
 number-requires-2 : tie.Need-number-requires-2
 number-requires-2 c κs = search needs
 
-enum-told-2 : tie.Need-enum-told-2
-enum-told-2 c = search needs
+enum-known-flattened-3 : tie.Need-enum-known-flattened-3
+enum-known-flattened-3 c = search needs
+
+tell-flaw-requires-2 : tie.Need-tell-flaw-requires-2
+tell-flaw-requires-2 c κs = search needs
 
 number-requires-3 : tie.Need-number-requires-3
 number-requires-3 c κs = search needs
 
-enum-known-flattened-2 : tie.Need-enum-known-flattened-2
-enum-known-flattened-2 c = search needs
+enum-known-flattened-4 : tie.Need-enum-known-flattened-4
+enum-known-flattened-4 c = search needs
 
 number-requires-4 : tie.Need-number-requires-4
 number-requires-4 c κs = search needs
 
-enum-known-flattened-3 : tie.Need-enum-known-flattened-3
-enum-known-flattened-3 c = search needs
+enum-known-flattened-5 : tie.Need-enum-known-flattened-5
+enum-known-flattened-5 c = search needs
 
 number-requires-5 : tie.Need-number-requires-5
 number-requires-5 c κs = search needs
@@ -72,8 +94,12 @@ same-length-2 c = search needs
 returns-2 : tie.Need-returns-2
 unfolding tell
 returns-2 c =
-    tell-left _ _ flattened _ (c .before .enum-told .given .1) _ (number-as flattened (c .before .enum-told .given .1) (c .number2 .ensures))
-    (asked (c .before .before .before .before .before))
+    let at-tell = c .before in
+    let at-flattened = at-tell .before .before .before .before in
+    let at-flatten = at-flattened .before .before .before .before in
+    let flaw = at-flattened .flattened2 .given .0 .0 in
+    bad-list _ _ (before (start at-flatten)) flaw (at-tell .tell-flaw .ensures .0) (at-tell .tell-flaw .ensures .1)
+    ∙ tell-left _ _ flattened _ (at-flattened .flattened2 .given .1) _ (c .number2 .ensures) (asked at-flatten)
 
 same-length-3 : tie.Need-same-length-3
 same-length-3 c = search needs
@@ -81,25 +107,29 @@ same-length-3 c = search needs
 returns-3 : tie.Need-returns-3
 unfolding tell
 returns-3 c =
-    tell-left _ _ flattened _ (c .before .enum-told2 .given .1) _ (number-as flattened (c .before .enum-told2 .given .1) (c .number3 .ensures))
-    (asked (c .before .before .before .before .before))
+    let at-tell = c .before in
+    let at-flattened = at-tell .before .before .before .before in
+    let at-flatten = at-flattened .before .before .before .before in
+    let flaw = at-flattened .flattened3 .given .0 .0 in
+    bad-list _ _ (before (start at-flatten)) flaw (at-tell .tell-flaw2 .ensures .0) (at-tell .tell-flaw2 .ensures .1)
+    ∙ tell-left _ _ flattened _ (at-flattened .flattened3 .given .1) _ (c .number3 .ensures) (asked at-flatten)
 
 same-length-4 : tie.Need-same-length-4
 same-length-4 c = search needs
 
 returns-4 : tie.Need-returns-4
-unfolding tell
+unfolding tell entryOr
 returns-4 c =
-    tell-left _ _ flattened _ (c .before .before .flattened2 .given .1) _ (c .number4 .ensures)
+    tell-left _ _ flattened _ (c .before .before .flattened4 .given .1) _ (c .number4 .ensures)
     (asked (c .before .before .before .before .before .before))
 
 same-length-5 : tie.Need-same-length-5
 same-length-5 c = search needs
 
 returns-5 : tie.Need-returns-5
-unfolding tell
+unfolding tell entryOr
 returns-5 c =
-    tell-left _ _ flattened _ (c .before .before .flattened3 .given .1) _ (c .number5 .ensures)
+    tell-left _ _ flattened _ (c .before .before .flattened5 .given .1) _ (c .number5 .ensures)
     (asked (c .before .before .before .before .before .before))
 
 pub ighzamrel-flatten-spec : {M : Type 1} → statement M
@@ -110,13 +140,15 @@ ighzamrel-flatten-spec =
     flatten-requires
     enum-known-flattened
     number-requires
-    enum-told
-    number-requires-2
-    enum-told-2
-    number-requires-3
     enum-known-flattened-2
-    number-requires-4
+    tell-flaw-requires
+    number-requires-2
     enum-known-flattened-3
+    tell-flaw-requires-2
+    number-requires-3
+    enum-known-flattened-4
+    number-requires-4
+    enum-known-flattened-5
     number-requires-5
     same-length
     returns

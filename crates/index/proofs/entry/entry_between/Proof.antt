@@ -1,8 +1,11 @@
 -- `index::entry::entry_between` meets its contract. Assumes nothing.
-use Prim.Native.Nat.{_+_}
+use mathlib.Core.Path.{ap, _∙_}
+use mathlib.Core.Bool.{cond}
+use Prim.Native.Nat.{ℕ, _+_}
+use lib.Dec.{eqb}
 use native.Mathlib.Omega.{arith}
 use Rattle.index.specs.OffsetLaws.{start-mono}
-use Rattle.index.specs.IndexLaws.{by-zero, by-descent, by-passing, by-order}
+use Rattle.index.specs.IndexLaws.{absentFor, by-zero, by-descent, by-passing, by-order}
 use borrow.Author.Needs.{needs}
 use Rattle.index.proofs.entry.entry_between.Statement.{statement}
 use Rattle.index.proofs.entry.entry_between.Tie as tie
@@ -38,10 +41,15 @@ offset-at-requires-2 c κs =
     (c .before .mask-of .ensures, (omega arith, omega arith))
 
 returns : tie.Need-returns
-returns c = by-zero _ _ _ _ _ (omega arith)
+returns c = by-zero _ _ _ _ _ (omega arith) (omega arith)
+
+below-requires : tie.Need-below-requires
+below-requires c κs = search needs
 
 returns-2 : tie.Need-returns-2
-returns-2 c = by-descent _ _ _ _ _ (omega arith)
+returns-2 c =
+    let second = c .before .before .before .offset-at2 .ensures .0 in
+    ap absentFor (c .below .ensures ∙ ap (λ (b : ℕ). cond (eqb b 0) 40 41) second) ∙ by-descent _ _ _ _ _ (omega arith) (omega arith)
 
 sub-if3 : tie.Need-sub-if3
 sub-if3 c = search needs
@@ -50,7 +58,7 @@ add-if3 : tie.Need-add-if3
 add-if3 c = search needs
 
 returns-3 : tie.Need-returns-3
-returns-3 c = by-passing _ _ _ _ _ (omega arith)
+returns-3 c = by-passing _ _ _ _ _ (omega arith) (omega arith) (omega arith) (omega arith)
 
 sub-t14 : tie.Need-sub-t14
 sub-t14 c = search needs
@@ -74,6 +82,7 @@ entry-between-spec =
     add-offset-at
     offset-at-requires-2
     returns
+    below-requires
     returns-2
     sub-if3
     add-if3

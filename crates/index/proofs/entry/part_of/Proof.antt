@@ -24,7 +24,7 @@ other : (at : ℕ × ℕ) (s : List ℕ) (r : EntryRead)
 other at s (Entry a m) k = absurd (miss (1 ∷ 2 ∷ 3 ∷ []) 0 tt k)
 other at s Lacking k = part-none at s 20 alone
 other at s BadSize k = part-none at s 21 alone
-other at s Absent k = part-none at s 25 alone
+other at s (Absent why) k = part-none at s _ alone
 
 -- where the entry is bound
 within : (c : tie.After-entry) → c .entry .given .0 .0 + c .entry .given .0 .1 .0 ≤ length (c .before .before .args .s .now)

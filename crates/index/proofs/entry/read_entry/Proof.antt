@@ -5,7 +5,7 @@ use mathlib.Core.List.{List}
 use native.Mathlib.Omega.{arith}
 use Rattle.index.specs.Index.{widthOf, extent, place, indexRead}
 use Rattle.index.specs.Code.{reach, Full}
-use Rattle.index.specs.IndexLaws.{has, size-there, entries-full, not-read, past-count, to-place-by}
+use Rattle.index.specs.IndexLaws.{has, absentFor, count-there, size-there, entries-full, not-read, past-count, to-place-by}
 use borrow.Author.Needs.{needs}
 use Rattle.index.proofs.entry.read_entry.Statement.{statement}
 use Rattle.index.proofs.entry.read_entry.Tie as tie
@@ -48,8 +48,11 @@ enum-told-2 c = search needs
 enum-known-count : tie.Need-enum-known-count
 enum-known-count c = search needs
 
+behind-requires : tie.Need-behind-requires
+behind-requires c κs = count-there _ _ _ _ (read (c .before .before))
+
 returns : tie.Need-returns
-returns c = past-count _ _ _ (read (c .before .before)) (omega arith)
+returns c = ap absentFor (c .behind .ensures) ∙ past-count _ _ _ (read (c .before .before .before)) (omega arith)
 
 width-of-requires : tie.Need-width-of-requires
 width-of-requires c κs = search needs
@@ -86,6 +89,7 @@ read-entry-spec =
     enum-told
     enum-told-2
     enum-known-count
+    behind-requires
     returns
     width-of-requires
     shared-slice-read-entry-between

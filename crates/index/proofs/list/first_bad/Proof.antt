@@ -1,11 +1,11 @@
 -- `index::list::first_bad` meets its contract. Assumes nothing.
-use mathlib.Core.Path.{_≡_, refl, _∙_}
+use mathlib.Core.Path.{_≡_, refl, ap, _∙_}
 use Prim.Native.Nat.{_+_, _-_, _≤_, _<_}
 use native.Mathlib.Omega.{arith}
 use lib.ListN.{getD}
 use borrow.Author.Needs.{needs}
 use Rattle.index.specs.FormedLaws.{none-left, next-entry, bad-entry, from-first}
-use Rattle.index.specs.IndexLaws.{size-there, zero-offset, descends, passes, present}
+use Rattle.index.specs.IndexLaws.{absentFor, size-there, zero-offset, descends, passes, present}
 use Rattle.index.specs.OffsetLaws.{start-mono}
 use Rattle.index.specs.Formed.{entriesFrom, formation}
 use Rattle.index.specs.Code.{offsetOf}
@@ -38,12 +38,16 @@ offset-at-requires-2 c κs =
     let fewer = start-mono (a .width) {i = 0} {n = a .count} (getD (a .s .now) (a .width) 0) (omega arith) in
     (c .before .mask-of .ensures, (omega arith, omega arith))
 
+bad-requires : tie.Need-bad-requires Inv-loop μ-loop
+bad-requires c κs = search needs
+
 returns : tie.Need-returns Inv-loop μ-loop
 returns c =
-    let at-offset-at2 = c .before in
+    let at-offset-at2 = c .before .before in
     let start = at-offset-at2 .before .before .before .before .before in
     let f = start .pre .1 in
-    bad-entry _ _ (f .head .some) 25 (zero-offset _ _ _ f (at-offset-at2 .offset-at2 .ensures .0) refl (omega arith)) ∙ from-first _ _ f
+    let here = zero-offset _ _ _ f (at-offset-at2 .offset-at2 .ensures .0) refl (f .head .some) (omega arith) in
+    c .bad .ensures ∙ bad-entry _ _ (f .head .some) here ∙ from-first _ _ f
 
 loop-holds : tie.Need-loop-holds Inv-loop μ-loop
 loop-holds c =
@@ -63,21 +67,33 @@ offset-at-requires-3 c κs =
     let fewer = start-mono (a .width) {i = c .before .loop .i + 1} {n = a .count} (getD (a .s .now) (a .width) 0) (omega arith) in
     (c .before .before .before .before .before .mask-of .ensures, (omega arith, omega arith))
 
+below-requires : tie.Need-below-requires Inv-loop μ-loop
+below-requires c κs = search needs
+
+bad-requires-2 : tie.Need-bad-requires-2 Inv-loop μ-loop
+bad-requires-2 c κs = search needs
+
 returns-2 : tie.Need-returns-2 Inv-loop μ-loop
 returns-2 c =
-    let at-offset-at3 = c .before in
+    let at-below = c .before in
+    let at-offset-at3 = at-below .before .before in
     let at-loop = at-offset-at3 .before .before in
     let start = at-loop .before .before .before .before .before .before .before in
-    bad-entry _ _ (omega arith) 25 (descends _ _ _ (start .pre .1) (at-loop .loop .inv .1) (at-offset-at3 .offset-at3 .ensures .0) (omega arith))
-    ∙ at-loop .loop .inv .3
+    let next = at-offset-at3 .offset-at3 .ensures .0 in
+    let here = descends _ _ _ (start .pre .1) (at-loop .loop .inv .1) next (omega arith) (omega arith) in
+    c .bad2 .ensures ∙ bad-entry _ _ (omega arith) (ap absentFor (at-below .below .ensures) ∙ here) ∙ at-loop .loop .inv .3
+
+bad-requires-3 : tie.Need-bad-requires-3 Inv-loop μ-loop
+bad-requires-3 c κs = search needs
 
 returns-3 : tie.Need-returns-3 Inv-loop μ-loop
 returns-3 c =
-    let at-offset-at3 = c .before .before in
+    let at-offset-at3 = c .before .before .before in
     let at-loop = at-offset-at3 .before .before in
     let start = at-loop .before .before .before .before .before .before .before in
-    bad-entry _ _ (omega arith) 25 (passes _ _ _ (start .pre .1) (at-loop .loop .inv .1) (at-offset-at3 .offset-at3 .ensures .0) (omega arith))
-    ∙ at-loop .loop .inv .3
+    let next = at-offset-at3 .offset-at3 .ensures .0 in
+    let here = passes _ _ _ (start .pre .1) (at-loop .loop .inv .1) next (omega arith) (omega arith) (omega arith) (omega arith) in
+    c .bad3 .ensures ∙ bad-entry _ _ (omega arith) here ∙ at-loop .loop .inv .3
 
 add-i : tie.Need-add-i Inv-loop μ-loop
 add-i c = search needs
@@ -110,12 +126,16 @@ first-bad-spec =
     mask-of-requires
     offset-at-requires
     offset-at-requires-2
+    bad-requires
     returns
     loop-holds
     cast-offset-at
     add-offset-at
     offset-at-requires-3
+    below-requires
+    bad-requires-2
     returns-2
+    bad-requires-3
     returns-3
     add-i
     loop-less

@@ -1,15 +1,15 @@
--- `index::list::well_formed` meets its contract. Assumes nothing.
+-- `index::list::check_list` meets its contract. Assumes nothing.
 use mathlib.Core.Path.{_≡_, sym, ap, subst, _∙_}
 use Prim.Native.Nat.{ℕ}
 use native.Mathlib.Omega.{arith}
 use Rattle.index.specs.Index.{widthOf, extent, indexRead}
 use Rattle.index.specs.Formed.{formation}
 use Rattle.index.specs.Code.{Full}
-use Rattle.index.specs.FormedLaws.{not-read, no-entries, fewer}
+use Rattle.index.specs.FormedLaws.{not-read, no-entries, no-first}
 use Rattle.index.specs.IndexLaws.{has, count-there, entries-full}
 use borrow.Author.Needs.{needs}
-use Rattle.index.proofs.list.well_formed.Statement.{statement}
-use Rattle.index.proofs.list.well_formed.Tie as tie
+use Rattle.index.proofs.list.check_list.Statement.{statement}
+use Rattle.index.proofs.list.check_list.Tie as tie
 
 -- where the INDEX is read
 module _ (c : tie.After-count) where
@@ -48,7 +48,10 @@ count-at-requires : tie.Need-count-at-requires
 count-at-requires c κs = count-there _ _ _ _ (read (c .before .before))
 
 returns-2 : tie.Need-returns-2
-returns-2 c = no-entries _ _ (read (c .before .before .before .before)) (omega arith) (omega arith)
+returns-2 c = no-entries _ _ (read (c .before .before .before .before)) (omega arith)
+
+bad-requires : tie.Need-bad-requires
+bad-requires c κs = search needs
 
 returns-3 : tie.Need-returns-3
 returns-3 c = not-read _ _ 20 (ap indexRead (sym (c .enum-told .given .1)) ∙ c .before .before .read-index .ensures)
@@ -57,10 +60,10 @@ returns-4 : tie.Need-returns-4
 returns-4 c = not-read _ _ 21 (ap indexRead (sym (c .enum-told2 .given .1)) ∙ c .before .before .read-index .ensures)
 
 returns-5 : tie.Need-returns-5
-returns-5 c = fewer _ _ (read (c .before .before .before .before)) (λ e. omega arith)
+returns-5 c = c .bad .ensures ∙ no-first _ _ (read (c .before .before .before .before .before)) (omega arith) (λ e. omega arith)
 
-pub well-formed-spec : {M : Type 1} → statement M
-well-formed-spec =
+pub check-list-spec : {M : Type 1} → statement M
+check-list-spec =
     tie.close
     (tie.spec
     read-index-requires
@@ -72,6 +75,7 @@ well-formed-spec =
     returns
     count-at-requires
     returns-2
+    bad-requires
     returns-3
     returns-4
     returns-5)
