@@ -55,7 +55,10 @@ enum ighzamrel_answer {
     IGHZAMREL_TOO_MANY_ELEMENTS = 22, /* an INDEX to be written has over 65535 elements */
     IGHZAMREL_TOO_LONG = 23,          /* an INDEX to be written has a last offset over 4294967295 */
     IGHZAMREL_LENGTHS_MISMATCH = 24,  /* the lengths of an INDEX to be written do not add up to its data */
-    IGHZAMREL_ENTRY_ABSENT = 25       /* the INDEX has no such entry */
+    IGHZAMREL_PAST_COUNT = 25,        /* the INDEX has no entry of that number */
+    IGHZAMREL_ZERO_OFFSET = 40,       /* an offset of the entry, or the INDEX's last, is 0 */
+    IGHZAMREL_DESCENDING = 41,        /* the offsets of the entry descend */
+    IGHZAMREL_PAST_DATA = 42          /* the offsets of the entry pass the data */
 };
 
 /* The kind of an operand, `kind`. What is not 0 is taken as a Fixed; reading gives 0 or 1. */
@@ -110,10 +113,17 @@ uint32_t ighzamrel_read_index(const uint8_t *bytes, size_t bytes_len, uint32_t *
 
 /*
  * Entry `number`, counted from 0, of the INDEX at the start of the bytes.
- * 0: *place, where it starts, counted from the first of the bytes, and *length. 20, 21 or 25: no place.
+ * 0: *place, where it starts, counted from the first of the bytes, and *length. 20, 21, 25, 40, 41 or 42: no place.
  */
 uint32_t ighzamrel_read_entry(const uint8_t *bytes, size_t bytes_len, uint32_t number, size_t *place,
                               size_t *length);
+
+/*
+ * Whether the INDEX at the start of the bytes is well formed: it can be read, and it has every entry that it counts.
+ * 0: *count, how many these are. 20 or 21: no place. 40, 41 or 42: *entry, the number of the first that it has not,
+ * which is 0 where the last offset of the INDEX is 0; that gives 40.
+ */
+uint32_t ighzamrel_check_list(const uint8_t *bytes, size_t bytes_len, uint32_t *count, uint32_t *entry);
 
 /*
  * Writes the INDEX of elements of these lengths, joined in `data`, to the start of out.
@@ -125,12 +135,39 @@ uint32_t ighzamrel_write_index(const uint32_t *lengths, size_t lengths_len, cons
 /*
  * Writes the flat string of a charstring to the start of out. `globals` and `locals` are the two subroutine
  * INDEXes, 00 00 where a font has none; `budget` is how many tokens may be run, through every call.
- * 0: *length, how many bytes the flat string has, and *tokens, how many tokens were run. 1 or 2: no place.
- * 3 to 12: *tokens, with the token that is refused but at 3. 13: *length, how many bytes are needed, and *tokens.
+ * 0: *length, how many bytes the flat string has, and *tokens, how many tokens were run. 1 or 2: *reason, what
+ * ighzamrel_check_list answers for that list, and at 40, 41 and 42 its *entry. 3 to 12: *tokens, with the token that
+ * is refused but at 3. 13: *length, how many bytes are needed, and *tokens.
  */
 uint32_t ighzamrel_flatten(const uint8_t *charstring, size_t charstring_len, const uint8_t *globals,
                            size_t globals_len, const uint8_t *locals, size_t locals_len, uint32_t profile,
-                           uint32_t budget, uint8_t *out, size_t out_len, size_t *length, uint32_t *tokens);
+                           uint32_t budget, uint8_t *out, size_t out_len, size_t *length, uint32_t *tokens,
+                           uint32_t *entry, uint32_t *reason);
+
+/* What ighzamrel_flatten answers and sets. A later version may have more, behind these. */
+typedef struct ighzamrel_flattening {
+    uint32_t answer;
+    size_t length;
+    uint32_t tokens;
+    uint32_t entry;
+    uint32_t reason;
+} ighzamrel_flattening;
+
+/* Calls ighzamrel_flatten with the places of *result, and gives its answer; what that does not set is 0. */
+static inline uint32_t ighzamrel_flatten_into(const uint8_t *charstring, size_t charstring_len,
+                                              const uint8_t *globals, size_t globals_len, const uint8_t *locals,
+                                              size_t locals_len, uint32_t profile, uint32_t budget, uint8_t *out,
+                                              size_t out_len, ighzamrel_flattening *result)
+{
+    result->length = 0;
+    result->tokens = 0;
+    result->entry = 0;
+    result->reason = 0;
+    result->answer = ighzamrel_flatten(charstring, charstring_len, globals, globals_len, locals, locals_len, profile,
+                                       budget, out, out_len, &result->length, &result->tokens, &result->entry,
+                                       &result->reason);
+    return result->answer;
+}
 
 #ifdef __cplusplus
 }

@@ -25,6 +25,9 @@ enum { ENTRIES = 3 + 4 * 8, DATA = 4, ROOM = 16 };
 static volatile uint8_t list[3 + 4 * (ENTRIES + 1) + DATA] = {
     0, ENTRIES, SIZE, OFFSET(1), OFFSET(2), OFFSET(4), OFFSET(5), EIGHT(5), EIGHT(5), EIGHT(5), EIGHT(5), 0x0B, 0x8B, 0x0B, 0x0B};
 static volatile size_t list_len = 3 + SIZE * (ENTRIES + 1) + DATA;
+/* its entry 1 has offsets that descend */
+static volatile uint8_t bad[3 + 4 * 4 + 1] = {0, 3, SIZE, OFFSET(1), OFFSET(2), OFFSET(1), OFFSET(2), 0x0B};
+static volatile size_t bad_len = 3 + SIZE * 4 + 1;
 /* local entry 0, global entry 1, local entry 2 */
 static const uint8_t charstring[] = {0x20, 0x0A, 0x21, 0x1D, 0x22, 0x0A, 0x0E};
 
@@ -58,19 +61,36 @@ static uint32_t by_branch(void)
 static uint32_t by_branch(void) { return 1; }
 #endif
 
+/* How many answers are wrong of what a list is refused with. */
+static int wrongly_refused(void)
+{
+    const uint8_t *good = (const uint8_t *)list, *bytes = (const uint8_t *)bad;
+    size_t start = 0, size = 0;
+    uint32_t count = 0, entry = 0;
+    uint8_t out[ROOM];
+    ighzamrel_flattening flat;
+    int faults = ighzamrel_read_entry(good, list_len, ENTRIES, &start, &size) != IGHZAMREL_PAST_COUNT;
+    faults += ighzamrel_read_entry(bytes, bad_len, 1, &start, &size) != IGHZAMREL_DESCENDING;
+    faults += ighzamrel_check_list(bytes, bad_len, &count, &entry) != IGHZAMREL_DESCENDING || entry != 1;
+    faults += ighzamrel_flatten_into(charstring, sizeof charstring, good, list_len, bytes, bad_len, IGHZAMREL_PLAIN, 100, out, sizeof out, &flat)
+        != IGHZAMREL_BAD_LOCALS || flat.entry != 1 || flat.reason != IGHZAMREL_DESCENDING;
+    return faults;
+}
+
 /* How many answers are wrong. */
 static int wrong(void)
 {
     const uint8_t *bytes = (const uint8_t *)list;
-    size_t taken = 0, start = 0, size = 0, length = 0;
-    uint32_t count = 0, tokens = 0;
+    size_t taken = 0, start = 0, size = 0;
+    uint32_t count = 0, entry = 0;
     uint8_t out[ROOM];
-    int faults = by_branch() != 1;
+    ighzamrel_flattening flat;
+    int faults = (by_branch() != 1) + wrongly_refused();
     faults += ighzamrel_read_index(bytes, list_len, &count, &taken) != IGHZAMREL_ACCEPTED || count != ENTRIES || taken != list_len;
     faults += ighzamrel_read_entry(bytes, list_len, 1, &start, &size) != IGHZAMREL_ACCEPTED || start != list_len - 3 || size != 2;
-    faults += ighzamrel_read_entry(bytes, list_len, ENTRIES, &start, &size) != IGHZAMREL_ENTRY_ABSENT;
-    faults += ighzamrel_flatten(charstring, sizeof charstring, bytes, list_len, bytes, list_len, IGHZAMREL_PLAIN, 100, out, sizeof out, &length,
-                                &tokens) != IGHZAMREL_ACCEPTED || length != 2 || tokens != 11;
+    faults += ighzamrel_check_list(bytes, list_len, &count, &entry) != IGHZAMREL_ACCEPTED || count != ENTRIES;
+    faults += ighzamrel_flatten_into(charstring, sizeof charstring, bytes, list_len, bytes, list_len, IGHZAMREL_PLAIN, 100, out, sizeof out, &flat)
+        != IGHZAMREL_ACCEPTED || flat.length != 2 || flat.tokens != 11;
     return faults;
 }
 

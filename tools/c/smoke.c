@@ -26,13 +26,13 @@ enum { UNTOUCHED = 77, BLANK = 0xA5, ROOM = 32 };
 
 static uint8_t out[ROOM];
 static size_t length;
-static uint32_t tokens;
+static uint32_t tokens, entry, reason;
 
 static void clear(void)
 {
     memset(out, BLANK, sizeof out);
     length = UNTOUCHED;
-    tokens = UNTOUCHED;
+    tokens = entry = reason = UNTOUCHED;
 }
 
 /* Whether out starts with these bytes, and is blank behind them. */
@@ -145,11 +145,18 @@ static void index_read(const uint8_t *bytes, size_t n, uint32_t answer, uint32_t
     EXPECT(c == count && t == taken);
 }
 
-static void entry_read(uint32_t number, size_t n, uint32_t answer, size_t place, size_t size)
+static void entry_read(const uint8_t *bytes, size_t n, uint32_t number, uint32_t answer, size_t place, size_t size)
 {
     size_t p = UNTOUCHED, s = UNTOUCHED;
-    EXPECT(ighzamrel_read_entry(L, n, number, &p, &s) == answer);
+    EXPECT(ighzamrel_read_entry(bytes, n, number, &p, &s) == answer);
     EXPECT(p == place && s == size);
+}
+
+static void list_checked(const uint8_t *bytes, size_t n, uint32_t answer, uint32_t count, uint32_t bad)
+{
+    uint32_t c = UNTOUCHED, e = UNTOUCHED;
+    EXPECT(ighzamrel_check_list(bytes, n, &c, &e) == answer);
+    EXPECT(c == count && e == bad);
 }
 
 static void index_written(const uint32_t *lengths, size_t n, const uint8_t *data, size_t size, size_t room,
@@ -169,23 +176,47 @@ static void indexes(void)
     index_read(EMPTY, sizeof EMPTY, 0, 0, 2);
     index_read(NONE, 20, UNTOUCHED, UNTOUCHED);
     index_read(BYTES(0x00, 0x01, 0x05), 21, UNTOUCHED, UNTOUCHED);
-    entry_read(0, sizeof L, 0, 5, 4);
-    entry_read(0, sizeof L - 1, 20, UNTOUCHED, UNTOUCHED);
-    entry_read(1, sizeof L, 25, UNTOUCHED, UNTOUCHED);
+    entry_read(L, sizeof L, 0, 0, 5, 4);
+    entry_read(L, sizeof L - 1, 0, 20, UNTOUCHED, UNTOUCHED);
+    entry_read(BYTES(0x00, 0x01, 0x05), 0, 21, UNTOUCHED, UNTOUCHED);
+    entry_read(L, sizeof L, 1, 25, UNTOUCHED, UNTOUCHED);
+    list_checked(L, sizeof L, 0, 1, UNTOUCHED);
+    list_checked(EMPTY, sizeof EMPTY, 0, 0, UNTOUCHED);
     index_written(lengths, 2, data, 1, ROOM, 0, 7);
     index_written(lengths, 2, data, 1, 7, 0, 7);
     index_written(lengths, 2, data, 1, 6, 13, 7);
     index_written(lengths, 2, data, 0, ROOM, 24, UNTOUCHED);
 }
 
-/* A flattening by these lists, with what it must answer; `flat` is NULL where it is refused. */
+/* What a struct has for what a place holds: 0 where that was left as it was. */
+static size_t given(size_t held) { return held == UNTOUCHED ? 0 : held; }
+
+/* Flattens, by the places and by the struct: both must have this answer and these values, and the room these bytes; NULL is blank. */
+static void flattened(const uint8_t *charstring, size_t n, const uint8_t *globals, size_t globals_len, const uint8_t *locals,
+                      size_t locals_len, const uint32_t limits[3], const ighzamrel_flattening *must, const uint8_t *flat)
+{
+    ighzamrel_flattening result;
+    clear();
+    EXPECT(ighzamrel_flatten(charstring, n, globals, globals_len, locals, locals_len, limits[0], limits[1], out, limits[2], &length,
+                             &tokens, &entry, &reason) == must->answer);
+    EXPECT(length == must->length && tokens == must->tokens && entry == must->entry && reason == must->reason);
+    EXPECT(flat == NULL ? blank() : holds(flat, length));
+    clear();
+    memset(&result, BLANK, sizeof result);
+    EXPECT(ighzamrel_flatten_into(charstring, n, globals, globals_len, locals, locals_len, limits[0], limits[1], out, limits[2],
+                                  &result) == must->answer);
+    EXPECT(result.answer == must->answer && result.length == given(must->length) && result.tokens == given(must->tokens));
+    EXPECT(result.entry == given(must->entry) && result.reason == given(must->reason));
+    EXPECT(flat == NULL ? blank() : holds(flat, result.length));
+}
+
+/* A flattening by this local list, with what it must answer; `flat` is NULL where it is refused. */
 struct row {
     const uint8_t *charstring;
     size_t charstring_len;
     const uint8_t *locals;
     size_t locals_len;
-    uint32_t profile, budget;
-    size_t room;
+    uint32_t limits[3]; /* profile, budget and room */
     uint32_t answer;
     size_t length;
     uint32_t tokens;
@@ -202,38 +233,60 @@ static void flattening(void)
     static const uint8_t short_form[] = {0x90, 0x0E};
     static const uint8_t masked[] = {0x8B, 0x8C, 0x01, 0x8B, 0x8C, 0x13, 0x80, 0x0E};
     const struct row rows[] = {
-        {NONE, EMPTY, 2, 0, 0, ROOM, 0, 0, 0, called},
-        {BYTES(0x20, 0x0A, 0x0E), L, 9, 0, 1000, ROOM, 0, 4, 7, called},
-        {BYTES(0x20, 0x0A, 0x0E), L, 9, 1, 7, 4, 0, 4, 7, called},
-        {BYTES(0x20, 0x0A, 0x0E), L, 9, 0, 1000, 3, 13, 4, 7, NULL},
-        {BYTES(0x20, 0x0A, 0x0E), L, 9, 0, 6, ROOM, 3, UNTOUCHED, 6, NULL},
-        {fixed, sizeof fixed, L, 9, 0, 1000, ROOM, 0, 4, 7, called},
-        {fixed, sizeof fixed, L, 9, 1, 1000, ROOM, 0, 4, 7, called},
-        {BYTES(0xFF, 0x00, 0xFF, 0x00, 0x01, 0x0A), L, 9, 0, 1000, ROOM, 7, UNTOUCHED, 2, NULL},
-        {BYTES(0x1C, 0x00, 0x05, 0x0E), EMPTY, 2, 0, 1000, ROOM, 0, 2, 2, short_form},
-        {BYTES(0x21, 0x20, 0x0A, 0x0E), twice, 9, 0, 1000, ROOM, 0, 3, 7, pair},
-        {masked, sizeof masked, EMPTY, 2, 0, 1000, ROOM, 0, 8, 7, masked},
-        {BYTES(0x8B, 0x8B, 0x8B, 0x8B, 0x0E), EMPTY, 2, 0, 1000, ROOM, 12, UNTOUCHED, 5, NULL},
-        {BYTES(0x8B, 0x8C, 0x01, 0x13, 0x80, 0x20, 0x13, 0x80, 0x0A), L, 9, 0, 1000, ROOM, 8, UNTOUCHED, 7, NULL},
-        {BYTES(0x20, 0x0A), deep, 7, 0, 1000, ROOM, 10, UNTOUCHED, 128, NULL},
-        {BYTES(0x20, 0x0A), deep, 7, 1, 1000, ROOM, 10, UNTOUCHED, 22, NULL},
-        {BYTES(0x20, 0x0A), deep, 7, 0, 127, ROOM, 3, UNTOUCHED, 127, NULL},
-        {BYTES(0x00), EMPTY, 2, 0, 1000, ROOM, 6, UNTOUCHED, 1, NULL},
-        {BYTES(0x20, 0x0A, 0x0E), EMPTY, 2, 0, 1000, ROOM, 9, UNTOUCHED, 2, NULL},
-        {BYTES(0x0E), NONE, 0, 1000, ROOM, 2, UNTOUCHED, UNTOUCHED, NULL},
+        {NONE, EMPTY, 2, {0, 0, ROOM}, 0, 0, 0, called},
+        {BYTES(0x20, 0x0A, 0x0E), L, 9, {0, 1000, ROOM}, 0, 4, 7, called},
+        {BYTES(0x20, 0x0A, 0x0E), L, 9, {1, 7, 4}, 0, 4, 7, called},
+        {BYTES(0x20, 0x0A, 0x0E), L, 9, {0, 1000, 3}, 13, 4, 7, NULL},
+        {BYTES(0x20, 0x0A, 0x0E), L, 9, {0, 6, ROOM}, 3, UNTOUCHED, 6, NULL},
+        {fixed, sizeof fixed, L, 9, {0, 1000, ROOM}, 0, 4, 7, called},
+        {fixed, sizeof fixed, L, 9, {1, 1000, ROOM}, 0, 4, 7, called},
+        {BYTES(0xFF, 0x00, 0xFF, 0x00, 0x01, 0x0A), L, 9, {0, 1000, ROOM}, 7, UNTOUCHED, 2, NULL},
+        {BYTES(0x1C, 0x00, 0x05, 0x0E), EMPTY, 2, {0, 1000, ROOM}, 0, 2, 2, short_form},
+        {BYTES(0x21, 0x20, 0x0A, 0x0E), twice, 9, {0, 1000, ROOM}, 0, 3, 7, pair},
+        {masked, sizeof masked, EMPTY, 2, {0, 1000, ROOM}, 0, 8, 7, masked},
+        {BYTES(0x8B, 0x8B, 0x8B, 0x8B, 0x0E), EMPTY, 2, {0, 1000, ROOM}, 12, UNTOUCHED, 5, NULL},
+        {BYTES(0x8B, 0x8C, 0x01, 0x13, 0x80, 0x20, 0x13, 0x80, 0x0A), L, 9, {0, 1000, ROOM}, 8, UNTOUCHED, 7, NULL},
+        {BYTES(0x20, 0x0A), deep, 7, {0, 1000, ROOM}, 10, UNTOUCHED, 128, NULL},
+        {BYTES(0x20, 0x0A), deep, 7, {1, 1000, ROOM}, 10, UNTOUCHED, 22, NULL},
+        {BYTES(0x20, 0x0A), deep, 7, {0, 127, ROOM}, 3, UNTOUCHED, 127, NULL},
+        {BYTES(0x00), EMPTY, 2, {0, 1000, ROOM}, 6, UNTOUCHED, 1, NULL},
+        {BYTES(0x20, 0x0A, 0x0E), EMPTY, 2, {0, 1000, ROOM}, 9, UNTOUCHED, 2, NULL},
     };
     size_t i;
     for (i = 0; i < sizeof rows / sizeof rows[0]; i++) {
         const struct row *r = &rows[i];
-        clear();
-        EXPECT(ighzamrel_flatten(r->charstring, r->charstring_len, EMPTY, sizeof EMPTY, r->locals, r->locals_len,
-                                 r->profile, r->budget, out, r->room, &length, &tokens) == r->answer);
-        EXPECT(length == r->length && tokens == r->tokens);
-        EXPECT(r->flat == NULL ? blank() : holds(r->flat, r->length));
+        const ighzamrel_flattening must = {r->answer, r->length, r->tokens, UNTOUCHED, UNTOUCHED};
+        flattened(r->charstring, r->charstring_len, EMPTY, sizeof EMPTY, r->locals, r->locals_len, r->limits, &must, r->flat);
     }
-    clear();
-    EXPECT(ighzamrel_flatten(L, 0, L, 8, EMPTY, 1, 0, 1000, out, ROOM, &length, &tokens) == IGHZAMREL_BAD_GLOBALS);
-    EXPECT(length == UNTOUCHED && tokens == UNTOUCHED && blank());
+}
+
+/* A list that is not well formed: the reason, and the entry that comes with it. The global list is looked at before the local one. */
+static void bad_list(const uint8_t *list, size_t n, uint32_t why, uint32_t bad)
+{
+    static const uint32_t limits[] = {IGHZAMREL_PLAIN, 0, ROOM};
+    static const uint8_t charstring[] = {0x0E};
+    const ighzamrel_flattening globals = {IGHZAMREL_BAD_GLOBALS, UNTOUCHED, UNTOUCHED, bad, why};
+    const ighzamrel_flattening locals = {IGHZAMREL_BAD_LOCALS, UNTOUCHED, UNTOUCHED, bad, why};
+    list_checked(list, n, why, UNTOUCHED, bad);
+    flattened(charstring, 1, list, n, EMPTY, 1, limits, &globals, NULL);
+    flattened(charstring, 1, L, sizeof L, list, n, limits, &locals, NULL);
+    if (bad != UNTOUCHED)
+        entry_read(list, n, bad, why, UNTOUCHED, UNTOUCHED);
+}
+
+static void bad_lists(void)
+{
+    bad_list(NONE, 20, UNTOUCHED);
+    bad_list(L, sizeof L - 1, 20, UNTOUCHED);
+    bad_list(BYTES(0x00, 0x01, 0x05), 21, UNTOUCHED);
+    /* a last offset of 0, a first one, and one between */
+    bad_list(BYTES(0x00, 0x02, 0x01, 0x01, 0x01, 0x00), 40, 0);
+    bad_list(BYTES(0x00, 0x02, 0x01, 0x00, 0x01, 0x01), 40, 0);
+    bad_list(BYTES(0x00, 0x03, 0x01, 0x01, 0x01, 0x00, 0x01), 40, 1);
+    bad_list(BYTES(0x00, 0x03, 0x01, 0x01, 0x02, 0x01, 0x02, 0x0E), 41, 1);
+    bad_list(BYTES(0x00, 0x03, 0x01, 0x01, 0x01, 0x03, 0x02, 0x0E), 42, 1);
+    /* a last offset of 0 is looked at before the number */
+    entry_read(BYTES(0x00, 0x02, 0x01, 0x01, 0x01, 0x00), 7, 40, UNTOUCHED, UNTOUCHED);
 }
 
 int main(void)
@@ -242,6 +295,7 @@ int main(void)
     call_indexes();
     indexes();
     flattening();
-    printf("smoke: nine functions, %u checks hold\n", checks);
+    bad_lists();
+    printf("smoke: ten functions, %u checks hold\n", checks);
     return 0;
 }

@@ -21,7 +21,7 @@ static uint32_t answer;
 
 static uint8_t charstring[64], locals[4096], out[ROOM];
 static size_t charstring_len, locals_len, place, length;
-static uint32_t kind, tokens;
+static uint32_t kind, tokens, entry, reason;
 static int32_t value;
 static const uint8_t globals[] = {0, 0};
 static const uint32_t lengths[] = {3, 4};
@@ -69,7 +69,7 @@ static void chain(int entries)
 static void flatten(uint32_t profile)
 {
     answer = ighzamrel_flatten(charstring, charstring_len, globals, sizeof globals, locals, locals_len, profile, 1000000,
-                               out, ROOM, &length, &tokens);
+                               out, ROOM, &length, &tokens, &entry, &reason);
 }
 
 static void flatten_plain(void) { flatten(IGHZAMREL_PLAIN); }
@@ -84,6 +84,7 @@ static void write_dict_integer(void) { answer = ighzamrel_write_dict_integer(-70
 static void call_index(void) { answer = ighzamrel_call_index(1, -0x7FFFFFFF, 0, &value); }
 static void read_index(void) { answer = ighzamrel_read_index(locals, locals_len, &kind, &length); }
 static void read_entry(void) { answer = ighzamrel_read_entry(locals, locals_len, 1, &place, &length); }
+static void check_list(void) { answer = ighzamrel_check_list(locals, locals_len, &kind, &entry); }
 static void write_index(void) { answer = ighzamrel_write_index(lengths, 2, charstring, 7, out, ROOM, &length); }
 
 /* Looks before it returns: what ends a thread would leave traces of its own. */
@@ -142,6 +143,7 @@ int main(void)
     measure("call_index", call_index);
     measure("read_index", read_index);
     measure("read_entry", read_entry);
+    measure("check_list", check_list);
     measure("write_index", write_index);
     return 0;
 }

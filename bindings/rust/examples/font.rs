@@ -8,7 +8,7 @@ use std::collections::BTreeMap;
 use std::{env, fmt, fs, process};
 
 use ighzamrel::{
-    flatten_to_vec, read_dict_integer, read_entry, read_index, Profile, Refusal, EMPTY_INDEX,
+    flatten_to_vec, read_dict_integer, read_entry, read_index, Profile, Refused, EMPTY_INDEX,
 };
 
 /// What one glyph may take: of time, in tokens, and of memory, in bytes.
@@ -49,7 +49,8 @@ pub struct Counts {
     pub before: usize,
     /// The bytes of their flat strings.
     pub after: usize,
-    pub refused: BTreeMap<Refusal, u32>,
+    /// What each refusal says, without the tokens, and of how many glyphs.
+    pub refused: BTreeMap<Refused, u32>,
 }
 
 impl fmt::Display for Counts {
@@ -66,7 +67,7 @@ impl fmt::Display for Counts {
         writeln!(f, "  {refused} refused")?;
         self.refused
             .iter()
-            .try_for_each(|(refusal, times)| writeln!(f, "  {times} with {refusal}"))
+            .try_for_each(|(refused, times)| writeln!(f, "  {times} with {refused}"))
     }
 }
 
@@ -77,8 +78,8 @@ pub fn count(file: &[u8], profile: Profile) -> Result<Counts, String> {
     for glyph in 0..font.charstrings.count {
         let locals = font.locals_of(glyph)?;
         counts.glyphs += 1;
-        if let Err(refusal) = counts.flatten(&font, glyph, locals, profile) {
-            *counts.refused.entry(refusal).or_default() += 1;
+        if let Err(refused) = counts.flatten(&font, glyph, locals, profile) {
+            *counts.refused.entry(refused).or_default() += 1;
         }
     }
     Ok(counts)
@@ -91,7 +92,7 @@ impl Counts {
         glyph: u32,
         locals: &[u8],
         profile: Profile,
-    ) -> Result<(), Refusal> {
+    ) -> Result<(), Refused> {
         let charstring = &font.charstrings.bytes[read_entry(font.charstrings.bytes, glyph)?];
         match flatten_to_vec(charstring, font.globals, locals, profile, BUDGET, ROOM) {
             Ok(flat) => {
@@ -102,7 +103,11 @@ impl Counts {
             }
             Err(refused) => {
                 self.tokens += u64::from(refused.tokens.unwrap_or(0));
-                Err(refused.refusal)
+                Err(Refused {
+                    needed: None,
+                    tokens: None,
+                    ..refused
+                })
             }
         }
     }

@@ -1,7 +1,7 @@
-//! The nine C functions, each behind a safe function that lends it slices and places of its own.
+//! The ten C functions, each behind a safe function that lends it slices and places of its own.
 //!
 //! What include/ighzamrel.h asks of pointers holds of what is lent here: a slice's pointer is valid for its length,
-//! aligned and never null, also where it is empty; `out` is borrowed alone, and the places are locals.
+//! aligned and never null, also where it is empty; `out` is borrowed alone, and so are the places.
 //! A value whose place the answer leaves as it was is 0; the caller knows by the answer which those are.
 #![allow(unsafe_code)]
 
@@ -54,6 +54,13 @@ pub mod c {
             length: *mut usize,
         ) -> u32;
 
+        pub fn ighzamrel_check_list(
+            bytes: *const u8,
+            bytes_len: usize,
+            count: *mut u32,
+            entry: *mut u32,
+        ) -> u32;
+
         pub fn ighzamrel_write_index(
             lengths: *const u32,
             lengths_len: usize,
@@ -77,6 +84,8 @@ pub mod c {
             out_len: usize,
             length: *mut usize,
             tokens: *mut u32,
+            entry: *mut u32,
+            reason: *mut u32,
         ) -> u32;
     }
 }
@@ -146,6 +155,14 @@ pub fn read_entry(bytes: &[u8], number: u32) -> (u32, usize, usize) {
     (answer, place, length)
 }
 
+/// The answer, then count and entry.
+pub fn check_list(bytes: &[u8]) -> (u32, u32, u32) {
+    let (mut count, mut entry) = (0, 0);
+    let answer =
+        unsafe { c::ighzamrel_check_list(bytes.as_ptr(), bytes.len(), &mut count, &mut entry) };
+    (answer, count, entry)
+}
+
 /// The answer, then the length.
 pub fn write_index(lengths: &[u32], data: &[u8], out: &mut [u8]) -> (u32, usize) {
     let mut length = 0;
@@ -163,19 +180,13 @@ pub fn write_index(lengths: &[u32], data: &[u8], out: &mut [u8]) -> (u32, usize)
     (answer, length)
 }
 
-/// The answer, then length and tokens.
-pub fn flatten(
-    charstring: &[u8],
-    globals: &[u8],
-    locals: &[u8],
-    profile: u32,
-    budget: u32,
-    out: &mut [u8],
-) -> (u32, usize, u32) {
-    let (mut length, mut tokens) = (0, 0);
-    let lent = [charstring, globals, locals];
-    let answer = flatten_to(lent, profile, budget, out, &mut length, &mut tokens);
-    (answer, length, tokens)
+/// The places of a flattening.
+#[derive(Default)]
+pub struct Places {
+    pub length: usize,
+    pub tokens: u32,
+    pub entry: u32,
+    pub reason: u32,
 }
 
 /// The answer; a place that it does not give is left as it was.
@@ -184,8 +195,7 @@ pub fn flatten_to(
     profile: u32,
     budget: u32,
     out: &mut [u8],
-    length: &mut usize,
-    tokens: &mut u32,
+    places: &mut Places,
 ) -> u32 {
     unsafe {
         c::ighzamrel_flatten(
@@ -199,8 +209,10 @@ pub fn flatten_to(
             budget,
             out.as_mut_ptr(),
             out.len(),
-            length,
-            tokens,
+            &mut places.length,
+            &mut places.tokens,
+            &mut places.entry,
+            &mut places.reason,
         )
     }
 }

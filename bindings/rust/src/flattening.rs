@@ -1,7 +1,7 @@
 //! Flattening: a charstring and its subroutines as one string without calls.
 
 use crate::ffi;
-use crate::refusal::{Refusal, Refused};
+use crate::refusal::{told_with, Offered, Refused};
 use crate::Profile;
 
 /// An accepted charstring whose flat string was written to lent bytes.
@@ -28,7 +28,22 @@ pub struct FlatVec {
 /// `budget` is how many tokens may be run, through every call, and so bounds the time.
 /// A refusal changes no byte of `out`, and acceptance only the first `length`.
 ///
-/// Refused with one of [`Refusal::BadGlobals`] to [`Refusal::Short`].
+/// Refused with one of [`Refusal::BadGlobals`](crate::Refusal::BadGlobals) to
+/// [`Refusal::Short`](crate::Refusal::Short). A list that is not well formed comes with what
+/// [`check_list`](crate::check_list) says of it:
+///
+/// ```
+/// use ighzamrel::{flatten, Profile, Refusal, EMPTY_INDEX};
+/// // three entries by the offsets 1, 2, 1 and 2: entry 1 would end before it starts
+/// let locals = [0x00, 0x03, 0x01, 0x01, 0x02, 0x01, 0x02, 0x0B];
+/// let refused = flatten(&[0x0E], EMPTY_INDEX, &locals, Profile::Plain, 100, &mut [0; 8]).unwrap_err();
+/// assert_eq!(refused.refusal, Refusal::BadLocals);
+/// assert_eq!((refused.entry, refused.reason), (Some(1), Some(Refusal::Descending)));
+/// assert_eq!(
+///     refused.to_string(),
+///     "refusal 2: the local list's entry 1: its offsets descend"
+/// );
+/// ```
 pub fn flatten(
     charstring: &[u8],
     globals: &[u8],
@@ -37,12 +52,17 @@ pub fn flatten(
     budget: u32,
     out: &mut [u8],
 ) -> Result<Flat, Refused> {
-    let (answer, length, tokens) =
-        ffi::flatten(charstring, globals, locals, profile.number(), budget, out);
-    if answer == 0 {
-        return Ok(Flat { length, tokens });
-    }
-    Err(Refusal::told(answer).with(length, Some(tokens)))
+    let mut places = ffi::Places::default();
+    let lent = [charstring, globals, locals];
+    let answer = ffi::flatten_to(lent, profile.number(), budget, out, &mut places);
+    let (length, tokens) = (places.length, places.tokens);
+    let offered = Offered {
+        length: Some(length),
+        tokens: Some(tokens),
+        entry: Some(places.entry),
+        reason: Some(places.reason),
+    };
+    told_with(answer, Flat { length, tokens }, offered)
 }
 
 /// The flat string of a charstring, in bytes of its own, where it has at most `room`.

@@ -1,7 +1,7 @@
 //! Type 2 charstrings of a CFF font made flat: one string without calls for each glyph, and the numbers and INDEXes
 //! that charstrings stand in.
 //!
-//! This is a thin safe layer over the nine functions of Ighzamrel's static library. Each takes any bytes, ends, and
+//! This is a thin safe layer over the ten functions of Ighzamrel's static library. Each takes any bytes, ends, and
 //! either accepts or gives one numbered [`Refusal`]; what each answers is proved, and this layer is tested. They keep no
 //! state, and but for [`flatten_to_vec`] allocate nothing; any threads may call at once.
 //!
@@ -38,7 +38,7 @@ mod number;
 mod refusal;
 
 pub use flattening::{flatten, flatten_to_vec, Flat, FlatVec};
-pub use index::{read_entry, read_index, write_index, IndexRead, EMPTY_INDEX};
+pub use index::{check_list, read_entry, read_index, write_index, IndexRead, EMPTY_INDEX};
 pub use number::{
     call_index, read_charstring_number, read_dict_integer, write_charstring_number,
     write_dict_integer, NumberRead, Operand,

@@ -8,11 +8,13 @@ use std::fmt;
 enum Value {
     Length,
     Tokens,
+    Entry,
+    Reason,
 }
 
-/// The enum of refusals: number, name, what comes with it, and its text.
+/// The enum of refusals: number, name, what comes with it, its text, and its words where a list is refused for a reason.
 macro_rules! refusals {
-    ($($number:literal $name:ident [$($value:ident)*] $text:literal)*) => {
+    ($($number:literal $name:ident [$($value:ident)*] $text:literal $({$clause:literal})?)*) => {
         /// Why an input was refused. The names and numbers are those of `include/ighzamrel.h`.
         ///
         /// Its text, by `Display`, is its number and a sentence for a person, as the crate's first example shows.
@@ -36,6 +38,12 @@ macro_rules! refusals {
                 }
             }
 
+            const fn clause(self) -> &'static str {
+                match self {
+                    $(Refusal::$name => concat!($($clause)?),)*
+                }
+            }
+
             const fn values(self) -> &'static [Value] {
                 match self {
                     $(Refusal::$name => &[$(Value::$value),*],)*
@@ -47,8 +55,8 @@ macro_rules! refusals {
 
 // The list is made from refusals.txt, by `tools/refusals --write`.
 refusals! {
-    1 BadGlobals [] "the list of global subroutines is not well formed"
-    2 BadLocals [] "the list of local subroutines is not well formed"
+    1 BadGlobals [Entry Reason] "the list of global subroutines is not well formed" {"the global list's "}
+    2 BadLocals [Entry Reason] "the list of local subroutines is not well formed" {"the local list's "}
     3 BudgetSpent [Tokens] "the budget is spent"
     4 BytesLacking [Tokens] "a number, an operator or a mask lacks bytes"
     5 TooManyOperands [Tokens] "more than 48 operands wait"
@@ -61,12 +69,15 @@ refusals! {
     12 Composite [Tokens] "endchar has four operands or more, for a glyph made of two others"
     13 Short [Length Tokens] "the result is longer than the room for it"
     17 Outside16Bits [] "an integer to be written into a charstring is outside 16 bits"
-    20 IndexLacking [] "an INDEX lacks bytes"
-    21 OffsetSize [] "the offset size of an INDEX is not 1 to 4"
+    20 IndexLacking [] "an INDEX lacks bytes" {"bytes end too soon"}
+    21 OffsetSize [] "the offset size of an INDEX is not 1 to 4" {"offset size is not 1 to 4"}
     22 TooManyElements [] "an INDEX to be written has over 65535 elements"
     23 TooLong [] "an INDEX to be written has a last offset over 4294967295"
     24 LengthsMismatch [] "the lengths of an INDEX to be written do not add up to its data"
-    25 EntryAbsent [] "the INDEX has no such entry"
+    25 PastCount [] "the INDEX has no entry of that number"
+    40 ZeroOffset [Entry] "an offset of the entry, or the INDEX's last, is 0" {"an offset, or the list's last, is 0"}
+    41 Descending [Entry] "the offsets of the entry descend" {"its offsets descend"}
+    42 PastData [Entry] "the offsets of the entry pass the data" {"its offsets pass the data"}
 }
 
 impl Refusal {
@@ -82,15 +93,33 @@ impl Refusal {
         })
     }
 
-    /// The refusal, with those of the values that come with it; `tokens` is None where the function runs none.
-    pub(crate) fn with(self, length: usize, tokens: Option<u32>) -> Refused {
-        let comes = |value| self.values().contains(&value);
+    fn has(self, value: Value) -> bool {
+        self.values().contains(&value)
+    }
+
+    /// The refusal, with those of the values that come with it; with a reason comes what comes with that.
+    pub(crate) fn with(self, offered: Offered) -> Refused {
+        let reason = offered.reason.filter(|_| self.has(Value::Reason));
+        let reason = reason.map(Refusal::told);
         Refused {
             refusal: self,
-            needed: comes(Value::Length).then_some(length),
-            tokens: tokens.filter(|_| comes(Value::Tokens)),
+            needed: offered.length.filter(|_| self.has(Value::Length)),
+            tokens: offered.tokens.filter(|_| self.has(Value::Tokens)),
+            entry: offered
+                .entry
+                .filter(|_| reason.unwrap_or(self).has(Value::Entry)),
+            reason,
         }
     }
+}
+
+/// What a function has in its places; None where it has no such place.
+#[derive(Default)]
+pub(crate) struct Offered {
+    pub length: Option<usize>,
+    pub tokens: Option<u32>,
+    pub entry: Option<u32>,
+    pub reason: Option<u32>,
 }
 
 impl fmt::Display for Refusal {
@@ -134,7 +163,7 @@ impl fmt::Display for NoRefusal {
 impl Error for NoRefusal {}
 
 /// A refusal with the values that the answer gives.
-#[derive(Clone, Copy, Debug, PartialEq, Eq)]
+#[derive(Clone, Copy, Debug, PartialEq, Eq, Hash, PartialOrd, Ord)]
 pub struct Refused {
     /// Which refusal it is.
     pub refusal: Refusal,
@@ -143,13 +172,44 @@ pub struct Refused {
     /// In flattening, how many tokens were run, the refused one among them but at [`Refusal::BudgetSpent`].
     /// None where a list is not well formed, for then nothing was run.
     pub tokens: Option<u32>,
+    /// Where a list is not well formed for want of an entry, the number of the first that it has not.
+    pub entry: Option<u32>,
+    /// With [`Refusal::BadGlobals`] and [`Refusal::BadLocals`], what is wrong with the list:
+    /// [`Refusal::IndexLacking`] or [`Refusal::OffsetSize`]; or, with the entry, [`Refusal::ZeroOffset`],
+    /// [`Refusal::Descending`] or [`Refusal::PastData`].
+    pub reason: Option<Refusal>,
+}
+
+impl From<Refusal> for Refused {
+    /// The refusal alone.
+    fn from(refusal: Refusal) -> Refused {
+        refusal.with(Offered::default())
+    }
+}
+
+impl Refused {
+    /// Whose list it is, its entry, and what is wrong with it.
+    fn say_reason(&self, reason: Refusal, f: &mut fmt::Formatter<'_>) -> fmt::Result {
+        let list = self.refusal.clause();
+        write!(f, "refusal {}: {list}", self.refusal.number())?;
+        if let Some(entry) = self.entry {
+            write!(f, "entry {entry}: ")?;
+        }
+        write!(f, "{}", reason.clause())
+    }
 }
 
 impl fmt::Display for Refused {
     fn fmt(&self, f: &mut fmt::Formatter<'_>) -> fmt::Result {
+        if let Some(reason) = self.reason {
+            return self.say_reason(reason, f);
+        }
         write!(f, "{}", self.refusal)?;
         if let Some(needed) = self.needed {
             write!(f, ", which must be {needed} bytes")?;
+        }
+        if let Some(entry) = self.entry {
+            write!(f, " (entry {entry})")?;
         }
         match self.tokens {
             Some(1) => write!(f, " (after 1 token)"),
@@ -173,7 +233,16 @@ pub(crate) fn told<T>(answer: u32, values: T) -> Result<T, Refusal> {
     }
 }
 
+/// The values where the answer is 0, else the refusal with those offered that come with it.
+pub(crate) fn told_with<T>(answer: u32, values: T, offered: Offered) -> Result<T, Refused> {
+    told(answer, values).map_err(|refusal| refusal.with(offered))
+}
+
 /// The length that was written, or the refusal with the length that 13 gives.
 pub(crate) fn written(answer: u32, length: usize) -> Result<usize, Refused> {
-    told(answer, length).map_err(|refusal| refusal.with(length, None))
+    let offered = Offered {
+        length: Some(length),
+        ..Offered::default()
+    };
+    told_with(answer, length, offered)
 }

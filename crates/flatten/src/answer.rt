@@ -1,6 +1,8 @@
 // What came of a font part: the answer's number and its values, and a sentence.
 use crate::hex::write_hex;
 use crate::part::Reply;
+use index::Absence;
+use index::Flaw;
 use libc::STDERR_FILENO;
 use libc::STDOUT_FILENO;
 use reading::Flattened;
@@ -53,8 +55,8 @@ fn tell_flattened(flattened: Flattened, room: &[u8]) {
     count(flattened.number() as u64);
     match flattened {
         Flattened::Accepted(n, tokens) => tell_accepted(n, tokens, room),
-        Flattened::BadGlobals => say(b": the list of global subroutines is not well formed\n"),
-        Flattened::BadLocals => say(b": the list of local subroutines is not well formed\n"),
+        Flattened::BadGlobals(flaw) => tell_bad(flaw, b": the global list's "),
+        Flattened::BadLocals(flaw) => tell_bad(flaw, b": the local list's "),
         Flattened::Refused(refusal, tokens) => tell_refusal(refusal, tokens),
         Flattened::NoRoom(n, tokens) => tell_short(n, tokens),
     }
@@ -69,6 +71,32 @@ fn tell_accepted(n: usize, tokens: u32, room: &[u8]) {
         write_hex(&room[0..n]);
     }
     say(b"\n");
+}
+
+// The entry and the reason, or the reason alone; whose they are, and what is wrong with the list.
+fn tell_bad(flaw: Flaw, whose: &[u8]) {
+    if let Flaw::Entry(i, _) = flaw {
+        say_value(i as u64);
+    }
+    say_value(flaw.number() as u64);
+    say(whose);
+    match flaw {
+        Flaw::Lacking => say(b"bytes end too soon\n"),
+        Flaw::BadSize => say(b"offset size is not 1 to 4\n"),
+        Flaw::Entry(i, why) => tell_absence(i, why),
+    }
+}
+
+// The entry, and why it is absent. It is never past the count, for each that is looked at is below it.
+fn tell_absence(i: u32, why: Absence) {
+    say(b"entry ");
+    count(i as u64);
+    match why {
+        Absence::PastCount => say(b": it is past the count\n"),
+        Absence::ZeroOffset => say(b": an offset, or the list's last, is 0\n"),
+        Absence::Descending => say(b": its offsets descend\n"),
+        Absence::PastData => say(b": its offsets pass the data\n"),
+    }
 }
 
 fn tell_short(n: usize, tokens: u32) {

@@ -1,4 +1,4 @@
-use crate::{alone, lent, BLANK};
+use crate::{alone, lent, BAD_LISTS, BLANK};
 use ighzamrel::Profile::{Plain, Strict};
 use ighzamrel::*;
 
@@ -110,9 +110,8 @@ fn accepted_rows_change_only_their_bytes() {
 fn accepted_rows_without_room_give_their_length_and_tokens() {
     for (charstring, locals, flat, tokens) in ACCEPTED {
         let refused = Refused {
-            refusal: Refusal::Short,
             needed: Some(flat.len()),
-            tokens: Some(tokens),
+            ..run(Refusal::Short, tokens)
         };
         for room in 0..flat.len() {
             both_refuse(charstring, locals, room, refused);
@@ -160,9 +159,15 @@ fn refused_rows_change_no_byte() {
 #[test]
 fn a_damaged_list_is_refused_before_anything_runs() {
     let flat = |globals, locals| flatten_to_vec(&[0x0E], globals, locals, Plain, 0, ROOM);
-    assert_eq!(flat(&[], &[]), Err(alone(Refusal::BadGlobals)));
-    assert_eq!(flat(&L[..8], EMPTY_INDEX), Err(alone(Refusal::BadGlobals)));
-    assert_eq!(flat(EMPTY_INDEX, &L[..8]), Err(alone(Refusal::BadLocals)));
+    for (list, reason, entry) in BAD_LISTS {
+        let refused = |refusal| Refused {
+            entry,
+            reason: Some(reason),
+            ..alone(refusal)
+        };
+        assert_eq!(flat(list, &[]), Err(refused(Refusal::BadGlobals)));
+        assert_eq!(flat(L, list), Err(refused(Refusal::BadLocals)));
+    }
 }
 
 #[test]

@@ -4,8 +4,9 @@
 #[path = "../../examples/font.rs"]
 mod example;
 
+use crate::alone;
 use example::{count, Counts};
-use ighzamrel::{write_index, Profile, Refusal};
+use ighzamrel::{write_index, Profile, Refusal, Refused};
 use std::collections::BTreeMap;
 
 fn index(elements: &[&[u8]]) -> Vec<u8> {
@@ -41,9 +42,9 @@ const REAL: [u8; 6] = [30, 0x0A, 0x00, 0x1F, 12, 7];
 /// -107 callsubr endchar, endchar, and an operator that is none.
 const GLYPHS: [&[u8]; 3] = [&[0x20, 0x0A, 0x0E], &[0x0E], &[0x00]];
 
-/// A Private DICT, and behind it the list that has this one subroutine.
-fn private(subroutine: &[u8]) -> Vec<u8> {
-    [entry(&[6], &[19]), index(&[subroutine])].concat()
+/// A Private DICT, and behind it its local list.
+fn private(list: &[u8]) -> Vec<u8> {
+    [&entry(&[6], &[19])[..], list].concat()
 }
 
 /// A CFF table up to its Global Subr INDEX.
@@ -59,6 +60,11 @@ fn head(top: &[u8]) -> Vec<u8> {
 }
 
 fn plain_font() -> Vec<u8> {
+    font_with(&index(&[&[0x8C, 0x8D, 0x15, 0x0B]]))
+}
+
+/// A font with this local list.
+fn font_with(locals: &[u8]) -> Vec<u8> {
     let top = |glyphs, private| {
         [
             &REAL[..],
@@ -70,10 +76,7 @@ fn plain_font() -> Vec<u8> {
     let start = head(&top(0, 0)).len();
     let glyphs = index(&GLYPHS);
     let head = head(&top(start, start + glyphs.len()));
-    file(
-        b"CFF ",
-        &[head, glyphs, private(&[0x8C, 0x8D, 0x15, 0x0B])].concat(),
-    )
+    file(b"CFF ", &[head, glyphs, private(locals)].concat())
 }
 
 /// A font with two Font DICTs: the first glyph goes by the second.
@@ -83,7 +86,8 @@ fn cid_font(select: &[u8]) -> Vec<u8> {
         [entry(&[glyphs], &[17]), dicts, entry(&[select], &[12, 37])].concat()
     };
     let glyphs = index(&GLYPHS);
-    let privates = [private(&[0x0E]), private(&[0x8C, 0x16, 0x0B])];
+    let lists: [&[u8]; 2] = [&[0x0E], &[0x8C, 0x16, 0x0B]];
+    let privates = lists.map(|subroutine| private(&index(&[subroutine])));
     let dicts = |at: usize| {
         let second = at + privates[0].len();
         index(&[&entry(&[6, at], &[18]), &entry(&[6, second], &[18])])
@@ -107,7 +111,7 @@ fn cid_font(select: &[u8]) -> Vec<u8> {
 }
 
 fn counts(tokens: u64, before: usize, after: usize) -> Result<Counts, String> {
-    let refused = BTreeMap::from([(Refusal::Unknown, 1)]);
+    let refused = BTreeMap::from([(Refusal::Unknown.into(), 1)]);
     Ok(Counts {
         glyphs: 3,
         tokens,
@@ -131,6 +135,19 @@ fn glyphs_are_counted() {
         ]
     );
     assert!(lines[3].starts_with("1 with refusal 6: "));
+}
+
+#[test]
+fn a_damaged_list_is_told_with_its_entry() {
+    let font = font_with(&[0, 3, 1, 1, 2, 1, 2, 0x0B]);
+    let why = Refused {
+        entry: Some(1),
+        reason: Some(Refusal::Descending),
+        ..alone(Refusal::BadLocals)
+    };
+    let counts = count(&font, Profile::Plain).unwrap();
+    assert_eq!(counts.refused, BTreeMap::from([(why, 3)]));
+    assert!(counts.to_string().ends_with(&format!("  3 with {why}\n")));
 }
 
 #[test]

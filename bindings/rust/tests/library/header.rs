@@ -1,5 +1,6 @@
 //! Refusals by number and in words; and the declarations, which are those of the C header.
 
+use crate::alone;
 use ighzamrel::{NoRefusal, Refusal, Refused};
 
 const HEADER: &str = include_str!("../../../../include/ighzamrel.h");
@@ -22,29 +23,54 @@ fn numbers_go_both_ways() {
 
 #[test]
 fn texts_are_for_a_person() {
-    let text = |refusal, needed, tokens| {
-        Refused {
-            refusal,
-            needed,
-            tokens,
-        }
-        .to_string()
+    let run = |refusal, needed, tokens| Refused {
+        needed,
+        tokens: Some(tokens),
+        ..alone(refusal)
     };
+    says(
+        run(Refusal::Short, Some(4), 7),
+        ", which must be 4 bytes (after 7 tokens)",
+    );
+    says(run(Refusal::Composite, None, 1), " (after 1 token)");
+    says(Refusal::BadLocals.into(), "");
+}
+
+/// It says what its refusal says, and then this.
+fn says(refused: Refused, more: &str) {
+    assert_eq!(refused.to_string(), format!("{}{more}", refused.refusal));
+}
+
+#[test]
+fn texts_tell_what_is_wrong_with_a_list() {
+    let list = |refusal, entry, reason| Refused {
+        entry,
+        reason,
+        ..alone(refusal)
+    };
+    let entry = |reason| list(Refusal::BadLocals, Some(812), Some(reason)).to_string();
     assert_eq!(
-        text(Refusal::Short, Some(4), Some(7)),
-        format!("{}, which must be 4 bytes (after 7 tokens)", Refusal::Short)
+        entry(Refusal::ZeroOffset),
+        "refusal 2: the local list's entry 812: an offset, or the list's last, is 0"
     );
     assert_eq!(
-        text(Refusal::BadLocals, None, None),
-        Refusal::BadLocals.to_string()
+        entry(Refusal::Descending),
+        "refusal 2: the local list's entry 812: its offsets descend"
     );
     assert_eq!(
-        text(Refusal::Composite, None, Some(1))
-            .split_once(" (")
-            .unwrap()
-            .1,
-        "after 1 token)"
+        entry(Refusal::PastData),
+        "refusal 2: the local list's entry 812: its offsets pass the data"
     );
+    let whole = |reason| list(Refusal::BadGlobals, None, Some(reason)).to_string();
+    assert_eq!(
+        whole(Refusal::IndexLacking),
+        "refusal 1: the global list's bytes end too soon"
+    );
+    assert_eq!(
+        whole(Refusal::OffsetSize),
+        "refusal 1: the global list's offset size is not 1 to 4"
+    );
+    says(list(Refusal::PastData, Some(812), None), " (entry 812)");
 }
 
 /// A parameter of the header as Rust declares it.

@@ -1,4 +1,4 @@
-use crate::{alone, refuses, writes};
+use crate::{alone, refuses, writes, BAD_LISTS};
 use ighzamrel::*;
 
 /// The local list L of docs/RULES.md.
@@ -20,7 +20,24 @@ fn an_index_is_read_and_taken_apart() {
     assert_eq!(read_entry(&ends_last, 0), Ok(7..7));
     let last_is_0 = [0x00, 0x02, 0x01, 0x01, 0x01, 0x00];
     assert_eq!(read_index(&last_is_0), Ok(IndexRead { count: 0, taken: 6 }));
-    assert_eq!(read_entry(&last_is_0, 0), Err(Refusal::EntryAbsent));
+    // a last offset of 0 is looked at before the number
+    for number in [0, 2, 7] {
+        assert_eq!(read_entry(&last_is_0, number), Err(Refusal::ZeroOffset));
+    }
+}
+
+#[test]
+fn a_list_is_checked() {
+    assert_eq!(check_list(&L), Ok(1));
+    assert_eq!(check_list(EMPTY_INDEX), Ok(0));
+    for (list, refusal, entry) in BAD_LISTS {
+        let refused = Refused {
+            entry,
+            ..alone(refusal)
+        };
+        assert_eq!(check_list(list), Err(refused));
+        assert_eq!(read_entry(list, entry.unwrap_or(0)), Err(refusal));
+    }
 }
 
 #[test]
@@ -33,8 +50,8 @@ fn an_index_is_refused() {
         assert_eq!(read_index(&[0, 1, size]), Err(Refusal::OffsetSize));
         assert_eq!(read_entry(&[0, 1, size], 0), Err(Refusal::OffsetSize));
     }
-    assert_eq!(read_entry(&L, 1), Err(Refusal::EntryAbsent));
-    assert_eq!(read_entry(EMPTY_INDEX, 0), Err(Refusal::EntryAbsent));
+    assert_eq!(read_entry(&L, 1), Err(Refusal::PastCount));
+    assert_eq!(read_entry(EMPTY_INDEX, 0), Err(Refusal::PastCount));
 }
 
 #[test]

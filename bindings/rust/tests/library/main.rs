@@ -17,17 +17,31 @@ fn alone(refusal: Refusal) -> Refused {
         refusal,
         needed: None,
         tokens: None,
+        entry: None,
+        reason: None,
     }
 }
 
 /// A refusal of a writer for want of room.
 fn short(needed: usize) -> Refused {
     Refused {
-        refusal: Refusal::Short,
         needed: Some(needed),
-        tokens: None,
+        ..alone(Refusal::Short)
     }
 }
+
+/// Lists that are not well formed: why, and the first entry that is not there.
+const BAD_LISTS: [(&[u8], Refusal, Option<u32>); 8] = [
+    (&[], Refusal::IndexLacking, None),
+    (&[0, 1, 1, 1, 5, 0x8C, 0x8D], Refusal::IndexLacking, None),
+    (&[0, 1, 5], Refusal::OffsetSize, None),
+    // a last offset of 0, a first one, and one between
+    (&[0, 2, 1, 1, 1, 0], Refusal::ZeroOffset, Some(0)),
+    (&[0, 2, 1, 0, 1, 1], Refusal::ZeroOffset, Some(0)),
+    (&[0, 3, 1, 1, 1, 0, 1], Refusal::ZeroOffset, Some(1)),
+    (&[0, 3, 1, 1, 2, 1, 2, 0x0E], Refusal::Descending, Some(1)),
+    (&[0, 3, 1, 1, 1, 3, 2, 0x0E], Refusal::PastData, Some(1)),
+];
 
 /// What `write` leaves in so many blank bytes, and what it answers.
 fn lent<T>(room: usize, write: impl FnOnce(&mut [u8]) -> T) -> (T, Vec<u8>) {
