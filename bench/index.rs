@@ -3,7 +3,7 @@
 
 mod timing;
 
-use oracle::library::{ighzamrel_read_entry, ighzamrel_read_index, tried_well_formed};
+use oracle::library::{ighzamrel_check_list, ighzamrel_read_entry, ighzamrel_read_index};
 use std::hint::black_box;
 use std::process::ExitCode;
 use subsetter::cff::index::{parse_index, Index};
@@ -146,9 +146,9 @@ fn entry(bytes: &[u8], number: u32) -> (usize, usize) {
 
 /// The count of a well-formed list.
 fn formed(bytes: &[u8]) -> u32 {
-    let mut count = 0;
-    // SAFETY: the pointer and the length are a slice's.
-    unsafe { tried_well_formed(bytes.as_ptr(), bytes.len(), &mut count) };
+    let (mut count, mut entry) = (0, 0);
+    // SAFETY: as above.
+    unsafe { ighzamrel_check_list(bytes.as_ptr(), bytes.len(), &mut count, &mut entry) };
     count
 }
 

@@ -2,7 +2,7 @@
 
 use oracle::fonts::Glyph;
 use oracle::inputs::case::PLAIN;
-use oracle::library::flatten_to;
+use oracle::library::{flatten_to, Places};
 
 /// What ours answers: the number, the length and the tokens.
 #[derive(Clone, Copy)]
@@ -14,8 +14,7 @@ pub struct Answer {
 
 pub fn ours(glyph: &Glyph, budget: u32, out: &mut [u8]) -> Answer {
     let Glyph { charstring, globals, locals } = *glyph;
-    let (mut length, mut tokens) = (0, 0);
-    let lent = [charstring, globals, locals];
-    let number = flatten_to(lent, PLAIN, budget, out, &mut length, &mut tokens);
-    Answer { number, length, tokens }
+    let mut places = Places::default();
+    let number = flatten_to([charstring, globals, locals], PLAIN, budget, out, &mut places);
+    Answer { number, length: places.length, tokens: places.tokens }
 }

@@ -75,7 +75,7 @@ fn other_last_byte<const LEAST: usize, const MOST: usize>(call: &Call, lent: &Le
 
 fn place_on_refusal(call: &Call, lent: &Lent) -> u32 {
     let answer = library(call, lent);
-    if !call.operation.places.is_empty() && call.operation.given(answer) == Some(0) {
+    if !call.operation.places.is_empty() && call.operation.given(answer, 0) == Some(0) {
         unsafe { *lent.place(0) = 0u32 };
     }
     answer

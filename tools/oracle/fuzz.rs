@@ -9,7 +9,7 @@ use oracle::tally::Tally;
 use oracle::{faults, fuzzed};
 use std::sync::Mutex;
 
-/// The library is not instrumented. So an answer, and how far a run came, count for libFuzzer as something reached.
+/// The library is not instrumented. So an answer, its reason, and how far a run came, count for libFuzzer as something reached.
 #[link_section = "__libfuzzer_extra_counters"]
 #[used]
 static mut REACHED: [u8; 4096] = [0; 4096];
@@ -57,7 +57,9 @@ pub unsafe extern "C" fn LLVMFuzzerTestOneInput(data: *const u8, size: usize) ->
 fn reached(call: &Call, outcome: &Outcome) {
     let place = OPERATIONS.iter().position(|one| one.number == call.operation.number).unwrap_or(0);
     let bits = outcome.values[1].map_or(0, |tokens| 64 - tokens.leading_zeros() as usize);
-    for at in [place * 64 + outcome.answer as usize, 1024 + outcome.answer as usize * 64 + bits] {
+    let (answer, reason) = call.operation.kind(outcome);
+    let far = reason.map_or(bits, |reason| reason as usize);
+    for at in [place * 64 + answer as usize, 1024 + answer as usize * 64 + far] {
         // SAFETY: one thread writes single bytes, and no reference is kept.
         unsafe { (&raw mut REACHED).cast::<u8>().add(at % 4096).write(1) };
     }

@@ -1,28 +1,27 @@
 //! The two lists of the last flattening, looked at once: a font's serve all its glyphs.
 
-use crate::rules::index::formed;
+use crate::rules::index::{formed, Flaw};
 use crate::source::flattening::Lists;
 use std::cell::RefCell;
 use std::ops::Range;
 use subsetter::Error;
 
-#[derive(Default)]
 pub struct Kept {
     lists: [Vec<u8>; 2],
-    /// The rule's count of each list that is well formed.
-    pub counts: [Option<u32>; 2],
-    /// Where the Rust's entries stand, where both are.
+    /// The rule's count of each list, or what is wrong with it.
+    pub formed: [Result<u32, Flaw>; 2],
+    /// Where the Rust's entries stand, where both are well formed.
     entries: [Vec<Range<usize>>; 2],
 }
 
 thread_local! {
-    static KEPT: RefCell<Kept> = RefCell::default();
+    static KEPT: RefCell<Kept> = RefCell::new(Kept::of([&[], &[]]));
 }
 
 impl Kept {
     pub fn with<T>(lists: [&[u8]; 2], asked: impl FnOnce(&Kept) -> T) -> T {
         KEPT.with_borrow_mut(|kept| {
-            if kept.lists != lists || lists == [[], []] {
+            if kept.lists != lists {
                 *kept = Kept::of(lists);
             }
             asked(kept)
@@ -30,16 +29,16 @@ impl Kept {
     }
 
     fn of(lists: [&[u8]; 2]) -> Self {
-        let counts = lists.map(|list| formed(list).ok());
-        let entries = match counts {
-            [Some(_), Some(_)] => {
+        let formed = lists.map(formed);
+        let entries = match formed {
+            [Ok(_), Ok(_)] => {
                 let Lists { globals, locals } = Lists::read(lists[0], lists[1]);
                 [(globals, lists[0]), (locals, lists[1])]
                     .map(|(entries, list)| entries.iter().map(|entry| place(entry, list)).collect())
             }
             _ => Default::default(),
         };
-        Kept { lists: lists.map(<[u8]>::to_vec), counts, entries }
+        Kept { lists: lists.map(<[u8]>::to_vec), formed, entries }
     }
 
     /// The Rust's flat string. The lists have to be well formed, and the run has to end.

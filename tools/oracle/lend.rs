@@ -146,9 +146,11 @@ fn outcome(
     room: &[u8],
 ) -> Result<Outcome, String> {
     let operation = call.operation;
-    let Some(given) = operation.given(answer) else {
+    if operation.given(answer, 0).is_none() {
         return Err(format!("  {answer} is none of the operation's answers\n"));
-    };
+    }
+    let changed = (0..PLACES).filter(|&i| places[i] != UNSET).map(|i| 1 << i).sum();
+    let given = operation.given(answer, changed).unwrap_or(0);
     let mut outcome = Outcome::refused(answer);
     for (i, &came) in places.iter().enumerate() {
         let place = operation.places.get(i).filter(|_| given >> i & 1 == 1);

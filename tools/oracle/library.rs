@@ -5,11 +5,10 @@
 mod ffi;
 
 pub use ffi::c::*;
-pub use ffi::flatten_to;
+pub use ffi::{flatten_to, Places};
 
 extern "C" {
     pub fn tried_callee(kind: u32, value: i32, profile: u32, count: u32, entry: *mut u32) -> u32;
-    pub fn tried_well_formed(bytes: *const u8, size: usize, told: *mut u32) -> u32;
     pub fn tried_view_length(bytes: *const u8, size: usize, number: u32) -> usize;
     pub fn tried_view_byte(bytes: *const u8, size: usize, number: u32, at: usize) -> u8;
 }

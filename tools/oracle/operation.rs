@@ -4,6 +4,7 @@
 use crate::random::Random;
 use crate::rules::flattening::Met;
 use std::borrow::Cow;
+use std::collections::BTreeSet;
 
 /// The most places that a C function has.
 pub const PLACES: usize = 4;
@@ -15,8 +16,11 @@ pub struct Operation {
     pub name: &'static str,
     pub arguments: &'static [Argument],
     pub places: &'static [Place],
-    /// All answers, and for each the places that it gives, as bits.
+    /// All answers, and for each the places that it gives, as bits. One that gives now some places and now others stands once
+    /// for each set of them, a smaller one first.
     pub answers: &'static [(u32, u8)],
+    /// The place that tells why an answer came, and all that it may tell. Answers that give it are counted by it.
+    pub reasons: Option<(usize, &'static [u32])>,
     /// Where the bytes come from that an accepted call shows.
     pub found: Found,
     /// What must come: the rule's word, with which the Rust must agree where it has one.
@@ -88,6 +92,7 @@ pub const BARE: Operation = Operation {
     arguments: &[],
     places: &[],
     answers: &[],
+    reasons: None,
     found: Found::Nothing,
     owed: |_| Err("no rule is given".into()),
     invoke: |_, _| u32::MAX,
@@ -133,6 +138,9 @@ pub enum Found {
     InSlice,
 }
 
+/// An answer, and the reason that it tells, if any.
+pub type Kind = (u32, Option<i64>);
+
 pub struct Owed {
     pub outcome: Outcome,
     /// Whether the Rust had a word too.
@@ -156,6 +164,8 @@ pub enum Must<'a> {
     Write(&'a [u8]),
     /// An answer 0 with these first values.
     Tell(Vec<i64>),
+    /// Just this.
+    Give(Outcome),
 }
 
 impl<'a> Call<'a> {
@@ -230,9 +240,26 @@ impl Operation {
         self.found != Found::Nothing
     }
 
-    /// The places that an answer gives; `None` where it is none of the operation's.
-    pub fn given(&self, answer: u32) -> Option<u8> {
-        self.answers.iter().find(|(own, _)| *own == answer).map(|(_, places)| *places)
+    /// The places that an answer gives: of its sets, the first with all places that changed; `None` where there is none.
+    pub fn given(&self, answer: u32, changed: u8) -> Option<u8> {
+        let fits = |&&(own, places): &&(u32, u8)| own == answer && changed & !places == 0;
+        self.answers.iter().find(fits).map(|(_, places)| *places)
+    }
+
+    /// What an outcome is counted as.
+    pub fn kind(&self, outcome: &Outcome) -> Kind {
+        (outcome.answer, self.reasons.and_then(|(place, _)| outcome.values[place]))
+    }
+
+    /// All kinds that there are.
+    pub fn kinds(&self) -> BTreeSet<Kind> {
+        let with_reasons = |&(answer, places): &(u32, u8)| match self.reasons {
+            Some((place, reasons)) if places >> place & 1 == 1 => {
+                reasons.iter().map(|&reason| (answer, Some(reason.into()))).collect()
+            }
+            _ => vec![(answer, None)],
+        };
+        self.answers.iter().flat_map(with_reasons).collect()
     }
 }
 
@@ -284,6 +311,7 @@ impl Must<'_> {
                 second.answer == 0
                     && values.iter().zip(second.values).all(|(own, came)| came == Some(*own))
             }
+            Must::Give(outcome) => second == outcome,
         }
     }
 }

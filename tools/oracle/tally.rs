@@ -1,12 +1,12 @@
-//! How often each operation gave each answer, and what the accepted charstrings had in them.
+//! How often each operation gave each answer, for each reason that it tells, and what the accepted charstrings had in them.
 
-use crate::operation::{Call, Operation, Outcome, Owed};
+use crate::operation::{Call, Kind, Operation, Outcome, Owed};
 use crate::operations::OPERATIONS;
 use std::collections::BTreeMap;
 
 #[derive(Default)]
 pub struct Tally {
-    /// First calls and all calls, by operation and answer.
+    /// First calls and all calls, by operation and kind of outcome.
     cases: Counts,
     calls: Counts,
     /// Calls that the Rust had a word about.
@@ -21,11 +21,11 @@ pub struct Tally {
     deepest: u32,
 }
 
-type Counts = BTreeMap<(u8, u32), u64>;
+type Counts = BTreeMap<(u8, Kind), u64>;
 
 impl Tally {
     pub fn case(&mut self, call: &Call, outcome: &Outcome, owed: &Owed) {
-        *self.cases.entry((call.operation.number, outcome.answer)).or_default() += 1;
+        *self.cases.entry((call.operation.number, call.operation.kind(outcome))).or_default() += 1;
         self.call(call, outcome, owed);
         if let (0 | 13, Some(met)) = (outcome.answer, owed.met) {
             self.called += u64::from(met.calls > 0);
@@ -38,7 +38,7 @@ impl Tally {
     }
 
     pub fn call(&mut self, call: &Call, outcome: &Outcome, owed: &Owed) {
-        *self.calls.entry((call.operation.number, outcome.answer)).or_default() += 1;
+        *self.calls.entry((call.operation.number, call.operation.kind(outcome))).or_default() += 1;
         self.rust += u64::from(owed.rust);
     }
 
@@ -59,10 +59,10 @@ impl Tally {
         let (cases, calls) = (self.cases.values().sum::<u64>(), self.calls.values().sum::<u64>());
         println!("{name}: {cases} inputs in {calls} calls, no difference");
         for operation in OPERATIONS {
-            let row: String = (operation.answers.iter())
-                .filter_map(|&(answer, _)| {
-                    let n = self.calls.get(&(operation.number, answer))?;
-                    Some(format!("  {answer}: {n}"))
+            let row: String = (operation.kinds().into_iter())
+                .filter_map(|kind| {
+                    let n = self.calls.get(&(operation.number, kind))?;
+                    Some(format!("  {}: {n}", named(kind)))
                 })
                 .collect();
             if !row.is_empty() {
@@ -87,10 +87,11 @@ impl Tally {
     pub fn lacks(&self, least: impl Fn(&Operation) -> u64) -> Vec<String> {
         let mut lacks = Vec::new();
         for operation in OPERATIONS {
-            for &(answer, _) in operation.answers {
-                let came = self.calls.get(&(operation.number, answer)).copied().unwrap_or(0);
+            for kind in operation.kinds() {
+                let came = self.calls.get(&(operation.number, kind)).copied().unwrap_or(0);
                 if came < least(operation) {
-                    lacks.push(format!("{} answered {answer} {came} times only", operation.name));
+                    let (name, kind) = (operation.name, named(kind));
+                    lacks.push(format!("{name} answered {kind} {came} times only"));
                 }
             }
         }
@@ -100,5 +101,12 @@ impl Tally {
             );
         }
         lacks
+    }
+}
+
+fn named((answer, reason): Kind) -> String {
+    match reason {
+        Some(reason) => format!("{answer} for {reason}"),
+        None => answer.to_string(),
     }
 }

@@ -6,8 +6,10 @@ use crate::arguments::flag_at;
 use crate::arguments::past_bytes;
 use crate::arguments::shaped;
 use crate::arguments::word_at;
+use crate::indexes::entry_of;
 use crate::line::Line;
 use crate::room::fill;
+use index::Flaw;
 use reading::Flattened;
 use reading::Profile;
 
@@ -44,16 +46,20 @@ fn profile(strict: bool) -> Profile {
     Profile::Plain
 }
 
-// `0 N TOKENS HEX`.
+// `0 N TOKENS HEX`; `1 ENTRY REASON`, and the same for 2.
 fn flattened(answer: Flattened, room: &[u8]) -> Line {
     let line = Line::of(answer.number());
     match answer {
         Flattened::Accepted(n, tokens) => {
             line.value(n as u64).value(tokens as u64).shows(n, room)
         }
-        Flattened::BadGlobals => line.keeps(room),
-        Flattened::BadLocals => line.keeps(room),
+        Flattened::BadGlobals(flaw) => flawed(flaw, line).keeps(room),
+        Flattened::BadLocals(flaw) => flawed(flaw, line).keeps(room),
         Flattened::Refused(_, tokens) => line.value(tokens as u64).keeps(room),
         Flattened::NoRoom(n, tokens) => line.value(n as u64).value(tokens as u64).keeps(room),
     }
+}
+
+fn flawed(flaw: Flaw, line: Line) -> Line {
+    entry_of(flaw, line).value(flaw.number() as u64)
 }

@@ -7,6 +7,7 @@ use crate::line::Line;
 use crate::room::copy;
 use crate::room::fill;
 use index::EntryRead;
+use index::Flaw;
 use index::Formed;
 use index::IndexRead;
 use index::Width;
@@ -57,11 +58,11 @@ pub(crate) fn write_index(args: &[u8], lengths: &mut [u32], room: &mut [u8]) -> 
 }
 
 // 11: bytes.
-pub(crate) fn well_formed(args: &[u8]) -> Line {
+pub(crate) fn check_list(args: &[u8]) -> Line {
     if !shaped(args, 0, 1) {
         return Line::unasked();
     }
-    formed(index::well_formed(bytes_at(args, 0), Width::Two))
+    formed(index::check_list(bytes_at(args, 0), Width::Two))
 }
 
 // 12: number, bytes.
@@ -106,7 +107,7 @@ fn entry_read(answer: EntryRead, part: &[u8], has: usize) -> Line {
             .marks(has != length),
         EntryRead::Lacking => line.marks(has != 0),
         EntryRead::BadSize => line.marks(has != 0),
-        EntryRead::Absent => line.marks(has != 0),
+        EntryRead::Absent(_) => line.marks(has != 0),
     }
 }
 
@@ -121,15 +122,21 @@ fn index_written(answer: IndexWritten, room: &[u8]) -> Line {
     }
 }
 
-// `0 COUNT`; or the number of an absent entry and which is the first: 0 where a last offset of 0
-// emptied the list.
+// `0 COUNT`, or `REASON ENTRY`.
 fn formed(answer: Formed) -> Line {
+    let line = Line::of(answer.number());
     match answer {
-        Formed::Yes(count) => Line::of(0).value(count as u64),
-        Formed::Lacking => Line::of(IndexRead::Lacking.number()),
-        Formed::BadSize => Line::of(IndexRead::BadSize.number()),
-        Formed::Emptied => Line::of(EntryRead::Absent.number()).value(0),
-        Formed::Bad(i) => Line::of(EntryRead::Absent.number()).value(i as u64),
+        Formed::Yes(count) => line.value(count as u64),
+        Formed::No(flaw) => entry_of(flaw, line),
+    }
+}
+
+// The entry that is wrong with a list, behind what the line has; none where its INDEX is not read.
+pub(crate) fn entry_of(flaw: Flaw, line: Line) -> Line {
+    match flaw {
+        Flaw::Lacking => line,
+        Flaw::BadSize => line,
+        Flaw::Entry(i, _) => line.value(i as u64),
     }
 }
 

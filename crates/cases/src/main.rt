@@ -88,7 +88,7 @@ fn answer(asked: &[u8], lengths: &mut [u32], room: &mut [u8]) -> Line {
         8 => flattening::flatten(args, room),
         9 => numbers::call_index(args),
         10 => numbers::callee(args),
-        11 => indexes::well_formed(args),
+        11 => indexes::check_list(args),
         12 => indexes::read_entry_by_view(args, room),
         _ => Line::unasked(),
     }

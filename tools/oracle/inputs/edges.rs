@@ -3,6 +3,7 @@
 use super::case::{
     list, Case, Given, AMPLE, FIRST, GLOBAL, L, LOCAL, NONE, PLAIN, SECOND, STRICT, THIRD,
 };
+use super::index::flawed;
 use crate::rules::flattening::Verdict;
 
 /// All of them; the flat strings with most hints into no room.
@@ -80,7 +81,7 @@ fn refused() -> Vec<Given> {
     asked
 }
 
-/// 1 and 2, before everything else that is wrong.
+/// 1 and 2, before everything else that is wrong; where both lists are bad, by flaws of their own.
 fn bad_lists() -> Vec<Given> {
     let bad: [&[u8]; 7] = [
         &[],
@@ -99,6 +100,12 @@ fn bad_lists() -> Vec<Given> {
             asked.extend(case.both());
             asked.push(case.asked(PLAIN, 0, 0));
         }
+    }
+    let flawed = flawed();
+    for (list, other) in flawed.iter().zip(flawed.iter().cycle().skip(1)) {
+        asked.push(Case::new(&[0x0E], list, L).ample(PLAIN));
+        asked.push(Case::new(&[0x0E], L, list).ample(STRICT));
+        asked.push(Case::new(&[0x0E], list, other).asked(PLAIN, 0, 0));
     }
     asked
 }

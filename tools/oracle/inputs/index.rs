@@ -1,4 +1,4 @@
-//! INDEXes to read: examples, cut off, damaged, every small one, long ones, and random and damaged ones.
+//! INDEXes to read: examples, cut off, damaged, with entries that are absent, every small one, long ones, and random and damaged ones.
 
 use crate::random::Random;
 
@@ -24,11 +24,14 @@ pub const EXAMPLES: [&[u8]; 10] = [
     &[0x00, 0x01, 0x01, 0x01, 0x02, 0x0E],
     &[0x00, 0x01, 0x01, 0x01, 0x03, 0x20, 0x0A],
     &[0x00, 0x02, 0x01, 0x01, 0x02, 0x02, 0x0E],
-    &[0x00, 0x02, 0x01, 0x01, 0x01, 0x00],
+    EMPTIED,
     &[0x00, 0x01, 0x01, 0x02, 0x03, 0x8C, 0x0B],
     &[0x00, 0x01, 0x01, 0x03, 0x03, 0xAA, 0xBB],
     &[],
 ];
+
+/// A last offset of 0, before which no entry's number counts.
+const EMPTIED: &[u8] = &[0x00, 0x02, 0x01, 0x01, 0x01, 0x00];
 
 const SIZES: [u8; 4] = [1, 2, 3, 4];
 
@@ -41,8 +44,10 @@ const ALPHABET: [u8; 7] = [0, 1, 2, 3, 4, 5, 255];
 /// Those of the list.
 pub fn listed() -> Vec<Read> {
     let mut reads: Vec<Read> = EXAMPLES.iter().map(|bytes| first_entries(bytes, 3)).collect();
+    reads.push(Read { bytes: EMPTIED.to_vec(), numbers: vec![7] });
     reads.extend(cut_off());
     reads.extend(damaged());
+    reads.extend(absent());
     for size in [2, 3, 4] {
         // entries on both sides of 256 bytes of data
         let bytes = Parts::of(&[255, 1, 2, 256, 1], size).laid();
@@ -90,6 +95,14 @@ impl Parts {
         }));
         let length = offsets[lengths.len()] as usize - 1;
         Parts { size, offsets, data: data(length) }
+    }
+
+    /// Offsets by which an entry is absent: an offset of 0; that, and descending, and past the data; descending; past the data; both.
+    fn absences(&self, entry: usize) -> [[u32; 2]; 7] {
+        let (from, to) = (self.offsets[entry], self.offsets[entry + 1]);
+        let after = |offset: u32| offset.wrapping_add(1);
+        let past = after(self.offsets[self.offsets.len() - 1]);
+        [[0, to], [0, 0], [from, 0], [0, past], [after(to), to], [from, past], [after(past), past]]
     }
 
     /// The bytes; a size that is none is said, and the offsets have four bytes.
@@ -163,6 +176,39 @@ fn damaged() -> Vec<Read> {
     reads
 }
 
+/// An INDEX at each size, with bytes behind its data: its first, a middle and its last entry absent for each reason and for each
+/// two at once; two entries absent for different reasons; and a last offset of 0.
+fn absent() -> Vec<Read> {
+    let mut reads = Vec::new();
+    for size in SIZES {
+        let sound = Parts { data: data(10), ..Parts::of(&[1, 2, 0, 2, 1, 1], size) };
+        let last = sound.offsets.len() - 2;
+        for entry in [0, 1, last] {
+            for offsets in sound.absences(entry) {
+                let mut parts = sound.clone();
+                parts.offsets[entry..][..2].copy_from_slice(&offsets);
+                reads.push(Read { bytes: parts.laid(), numbers: vec![entry as u32] });
+            }
+        }
+        let ends = |entry: usize| [0, sound.offsets[entry] - 1, sound.offsets[last + 1] + 1];
+        for (first, second) in [(0, 1), (0, 2), (1, 0), (1, 2), (2, 0), (2, 1)] {
+            let mut parts = sound.clone();
+            parts.offsets[2] = ends(1)[first];
+            parts.offsets[5] = ends(4)[second];
+            reads.push(Read { bytes: parts.laid(), numbers: vec![1, 4] });
+        }
+        let mut emptied = sound.clone();
+        emptied.offsets[last + 1] = 0;
+        reads.push(Read { bytes: emptied.laid(), numbers: vec![0, last as u32 + 1, u32::MAX] });
+    }
+    reads
+}
+
+/// Lists of which entries are absent.
+pub fn flawed() -> Vec<Vec<u8>> {
+    absent().into_iter().map(|read| read.bytes).collect()
+}
+
 /// 65,535 entries at an offset size: as many as there can be, a byte in as many as the size allows.
 fn full(size: u8) -> Vec<u8> {
     let held = if size == 1 { 254 } else { 65534 };
@@ -178,7 +224,7 @@ pub fn any_bytes(random: &mut Random) -> Vec<u8> {
     }
     let mut parts = any_parts(random);
     if random.once_in(2) {
-        damage(&mut parts, random);
+        (0..random.one_of(&[1, 1, 2, 3])).for_each(|_| damage(&mut parts, random));
     }
     let mut bytes = parts.laid();
     match random.within(0, 11) {
@@ -215,20 +261,26 @@ fn any_parts(random: &mut Random) -> Parts {
     parts
 }
 
-/// Another offset in the place of one, or another size.
+/// Another offset in the place of one, an entry that is absent, or another size.
 fn damage(parts: &mut Parts, random: &mut Random) {
+    let last = parts.offsets.len() - 1;
     if random.once_in(12) {
         parts.size = random.next() as u8;
         return;
     }
-    let last = parts.offsets.len() - 1;
+    if last > 0 && random.once_in(4) {
+        let entry = random.within(0, last as i64 - 1) as usize;
+        let offsets = random.one_of(&parts.absences(entry));
+        parts.offsets[entry..][..2].copy_from_slice(&offsets);
+        return;
+    }
     let at = if random.once_in(4) { last } else { random.within(0, last as i64) as usize };
     let here = parts.offsets[at];
     let end = parts.data.len() as u32 + 1;
     parts.offsets[at] = match random.within(0, 6) {
         0 => 0,
         1 => here.saturating_sub(random.within(1, 3) as u32),
-        2 => here + random.within(1, 3) as u32,
+        2 => here.wrapping_add(random.within(1, 3) as u32),
         3 => end + random.within(0, 2) as u32,
         4 => here ^ (1 << random.within(0, 31)),
         5 => random.within(0, i64::from(end)) as u32,

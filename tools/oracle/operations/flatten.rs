@@ -1,7 +1,8 @@
 //! Flattening: 8. The Rust has a word in the plain profile, where both lists are well formed and the answer is not 3, 8 or 11:
 //! the bytes of an accepted one, `CFFError` for 4, 5, 6, 7, 9 and 10, and `Unimplemented` for 12. It is asked once the rule's
-//! run has ended, so that it ends too. Tokens and room are the rule's alone.
+//! run has ended, so that it ends too. Tokens, room, and what is wrong with a list are the rule's alone.
 
+use super::check_list::check;
 use super::write_charstring_number::rooms;
 use crate::inputs::case::{Case, Given, NONE};
 use crate::inputs::{damaged, flattening, loose, structured};
@@ -11,6 +12,7 @@ use crate::operation::{Outcome, Owed, Place, BARE};
 use crate::random::Random;
 use crate::record::MOST;
 use crate::rules::flattening::{self as rules, Verdict};
+use crate::rules::index::{formed, Flaw};
 use crate::kept::Kept;
 use std::borrow::Cow;
 use subsetter::Error;
@@ -19,6 +21,8 @@ use subsetter::Error;
 const AMPLE: u32 = 20_000;
 
 const TOKENS: u8 = 0b10;
+const ENTRY: u8 = 0b100;
+const REASON: u8 = 0b1000;
 
 pub static OPERATION: Operation = Operation {
     number: 8,
@@ -31,11 +35,13 @@ pub static OPERATION: Operation = Operation {
         Argument::List(1),
         Argument::List(2),
     ],
-    places: &[Place::Size, Place::U32],
+    places: &[Place::Size, Place::U32, Place::U32, Place::U32],
     answers: &[
         (0, 0b11),
-        (1, 0),
-        (2, 0),
+        (1, REASON),
+        (1, ENTRY | REASON),
+        (2, REASON),
+        (2, ENTRY | REASON),
         (3, TOKENS),
         (4, TOKENS),
         (5, TOKENS),
@@ -48,6 +54,7 @@ pub static OPERATION: Operation = Operation {
         (12, TOKENS),
         (13, 0b11),
     ],
+    reasons: Some((3, &[20, 21, 40, 41, 42])),
     found: Found::Written,
     owed,
     invoke,
@@ -101,6 +108,19 @@ pub static OPERATION: Operation = Operation {
             name: "strict is taken for plain",
             plant: |call, lent| flatten_by(lent, 0, call.budget, lent.room),
         },
+        Fault {
+            name: "a reason is told where the charstring is accepted",
+            plant: |call, lent| after(call, lent, |answer| answer == 0, |lent| set(lent, 3, 0u32)),
+        },
+        Fault {
+            name: "an entry is told where the INDEX is refused",
+            plant: |call, lent| after(call, lent, bad_list, tell_entry),
+        },
+        Fault {
+            name: "the entry and the reason are exchanged",
+            plant: |call, lent| after(call, lent, bad_list, exchange),
+        },
+        Fault { name: "1 tells what is wrong with the local list", plant: by_locals },
     ],
     ..BARE
 };
@@ -112,10 +132,11 @@ fn invoke(call: &Call, lent: &Lent) -> u32 {
 fn flatten_by(lent: &Lent, profile: u32, budget: u32, room: usize) -> u32 {
     let [(cs, cs_len), (globals, globals_len), (locals, locals_len)] = lent.slices;
     let (out, length, tokens) = (lent.out, lent.place(0), lent.place(1));
+    let (entry, reason) = (lent.place(2), lent.place(3));
     unsafe {
         ighzamrel_flatten(
             cs, cs_len, globals, globals_len, locals, locals_len, profile, budget, out, room, length,
-            tokens,
+            tokens, entry, reason,
         )
     }
 }
@@ -140,9 +161,9 @@ fn any(random: &mut Random) -> Call<'static> {
 fn owed(call: &Call) -> Result<Owed, String> {
     let [charstring, globals, locals] = call.slices.each_ref().map(|slice| &slice[..]);
     Kept::with([globals, locals], |kept| {
-        let lists = match rules::Lists::known(globals, locals, kept.counts) {
+        let lists = match rules::Lists::known(globals, locals, kept.formed) {
             Ok(lists) => lists,
-            Err(refusal) => return Ok(Owed::by_rule(Outcome::refused(refusal))),
+            Err(bad) => return Ok(Owed::by_rule(told(&bad, call.room))),
         };
         let (verdict, met) = lists.flattened(charstring, call.strict(), call.budget);
         let outcome = told(&verdict, call.room);
@@ -155,24 +176,27 @@ fn owed(call: &Call) -> Result<Owed, String> {
 }
 
 fn told(verdict: &Verdict, room: usize) -> Outcome {
-    let mut outcome = match verdict {
+    match verdict {
         Verdict::Flat(flat, tokens) => {
             let (answer, bytes) = if flat.len() > room { (13, Vec::new()) } else { (0, flat.clone()) };
             Outcome::told(answer, [flat.len() as i64, (*tokens).into()], bytes)
         }
-        Verdict::BadList(refusal) | Verdict::Stopped(refusal, _) => Outcome::refused(*refusal),
-    };
-    if let Verdict::Stopped(_, tokens) = verdict {
-        outcome.values[1] = Some((*tokens).into());
+        Verdict::BadList(refusal, flaw) => {
+            let values = [None, None, flaw.entry().map(i64::from), Some(flaw.reason().into())];
+            Outcome { values, ..Outcome::refused(*refusal) }
+        }
+        Verdict::Stopped(refusal, tokens) => {
+            let values = [None, Some((*tokens).into()), None, None];
+            Outcome { values, ..Outcome::refused(*refusal) }
+        }
     }
-    outcome
 }
 
 /// What the Rust owes for a verdict, or `None` where it has no word.
 fn by_rust(verdict: &Verdict) -> Option<Result<Vec<u8>, Error>> {
     match verdict {
         Verdict::Flat(bytes, _) => Some(Ok(bytes.clone())),
-        Verdict::BadList(_) | Verdict::Stopped(3 | 8 | 11, _) => None,
+        Verdict::BadList(..) | Verdict::Stopped(3 | 8 | 11, _) => None,
         Verdict::Stopped(12, _) => Some(Err(Error::Unimplemented)),
         Verdict::Stopped(..) => Some(Err(Error::CFFError)),
     }
@@ -181,6 +205,7 @@ fn by_rust(verdict: &Verdict) -> Option<Result<Vec<u8>, Error>> {
 fn next<'a>(call: &'a Call<'a>, outcome: &'a Outcome) -> Vec<Next<'a>> {
     let mut next = rooms(call, outcome);
     next.extend(budgets(call, outcome));
+    next.extend(lists(call, outcome));
     if outcome.answer == 0 {
         let slices = [&outcome.bytes[..], NONE, NONE].map(Cow::Borrowed);
         let budget = outcome.values[1].unwrap_or(0) as u32;
@@ -219,6 +244,21 @@ fn budgets<'a>(call: &'a Call<'a>, outcome: &'a Outcome) -> Vec<Next<'a>> {
     next
 }
 
+/// 1 and 2 tell what the check of that list tells; with 2 the global list is well formed.
+fn lists<'a>(call: &'a Call<'a>, outcome: &Outcome) -> Vec<Next<'a>> {
+    let [.., entry, Some(reason)] = outcome.values else { return Vec::new() };
+    let list = |which: u32, must: Must<'a>| {
+        let law = "a list is not refused as the check of it says";
+        Next { call: check(&call.slices[which as usize]), must, law }
+    };
+    let told = Outcome { values: [None, entry, None, None], ..Outcome::refused(reason as u32) };
+    let mut next = vec![list(outcome.answer, Must::Give(told))];
+    if outcome.answer == 2 {
+        next.push(list(1, Must::Tell(Vec::new())));
+    }
+    next
+}
+
 /// The library's answer; and then something is done where it is such a one.
 fn after(call: &Call, lent: &Lent, such: fn(u32) -> bool, harm: fn(&Lent)) -> u32 {
     let answer = library(call, lent);
@@ -235,4 +275,32 @@ fn set<T>(lent: &Lent, which: usize, value: T) {
 fn add_token(lent: &Lent, above: u32) {
     let tokens: u32 = unsafe { *lent.place(1) };
     set(lent, 1, tokens + u32::from(tokens > above));
+}
+
+fn bad_list(answer: u32) -> bool {
+    answer == 1 || answer == 2
+}
+
+fn tell_entry(lent: &Lent) {
+    let reason: u32 = unsafe { *lent.place(3) };
+    if reason < 25 {
+        set(lent, 2, 0u32);
+    }
+}
+
+fn exchange(lent: &Lent) {
+    let [entry, reason]: [u32; 2] = unsafe { [*lent.place(2), *lent.place(3)] };
+    if reason > 25 {
+        set(lent, 2, reason);
+        set(lent, 3, entry);
+    }
+}
+
+fn by_locals(call: &Call, lent: &Lent) -> u32 {
+    let answer = library(call, lent);
+    if let (1, Err(Flaw::Entry(entry, reason))) = (answer, formed(&call.slices[2])) {
+        set(lent, 2, entry);
+        set(lent, 3, reason);
+    }
+    answer
 }

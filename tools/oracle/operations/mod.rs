@@ -19,7 +19,7 @@ operations! {
     read_index
     read_entry
     write_index
-    well_formed
+    check_list
     entry_by_view
     flatten
 }

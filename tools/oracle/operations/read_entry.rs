@@ -21,6 +21,18 @@ pub static OPERATION: Operation = Operation {
         Fault { name: "by offsets of two bytes an entry starts late", plant: late::<2> },
         Fault { name: "by offsets of three bytes an entry starts late", plant: late::<3> },
         Fault { name: "by offsets of four bytes an entry starts late", plant: late::<4> },
+        Fault {
+            name: "41 and 42 are exchanged in their order",
+            plant: |call, lent| exchanged(call, library(call, lent), call.number, [41, 42]),
+        },
+        Fault {
+            name: "40 and 41 are exchanged in their order",
+            plant: |call, lent| exchanged(call, library(call, lent), call.number, [40, 41]),
+        },
+        Fault {
+            name: "the number is looked at before a last offset of 0",
+            plant: |call, lent| exchanged(call, library(call, lent), call.number, [40, 25]),
+        },
     ],
     ..ENTRY
 };
@@ -29,7 +41,7 @@ pub static OPERATION: Operation = Operation {
 pub const ENTRY: Operation = Operation {
     arguments: &[Argument::Number, Argument::List(0)],
     places: &[Place::Size, Place::Size],
-    answers: &[(0, 0b11), (20, 0), (21, 0), (25, 0)],
+    answers: &[(0, 0b11), (20, 0), (21, 0), (25, 0), (40, 0), (41, 0), (42, 0)],
     found: Found::InSlice,
     owed,
     listed: |operation| all(operation, listed()),
@@ -77,11 +89,11 @@ pub fn owed(call: &Call) -> Result<Owed, String> {
     Owed::by_both(outcome, (rule.ok(), part.ok()), source)
 }
 
-/// An entry is refused as its INDEX is; and an INDEX that has it is read.
+/// An entry is refused as its INDEX is; and an INDEX that has it, or has it not, is read.
 fn next<'a>(call: &'a Call<'a>, outcome: &Outcome) -> Vec<Next<'a>> {
     let whole = Call { operation: &read_index::OPERATION, ..call.again() };
     let must = match outcome.answer {
-        0 | 25 => Must::Tell(Vec::new()),
+        0 | 25 | 40..=42 => Must::Tell(Vec::new()),
         refusal => Must::Refuse(refusal),
     };
     vec![Next { call: whole, must, law: "an entry is not refused as its INDEX is" }]
@@ -91,6 +103,14 @@ fn late<const SIZE: u8>(call: &Call, lent: &Lent) -> u32 {
     let answer = library(call, lent);
     if answer == 0 && call.slices[0][2] == SIZE {
         unsafe { *lent.place::<usize>(0) += 1 };
+    }
+    answer
+}
+
+/// The answer about an entry, were the second of these tested before the first.
+pub fn exchanged(call: &Call, answer: u32, entry: u32, [first, second]: [u32; 2]) -> u32 {
+    if answer == first && rules::reasons(&call.slices[0], entry).contains(&second) {
+        return second;
     }
     answer
 }

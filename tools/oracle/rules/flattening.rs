@@ -1,7 +1,7 @@
 //! The rules for flattening (docs/RULES.md), as a reader that follows calls, keeps what it read as a row
 //! of items, and joins them at the end. Nothing here asks the Rust.
 
-use super::index as indexes;
+use super::index::{self as indexes, Flaw};
 use super::number::{self as numbers, Operand, Place};
 
 /// A refusal's number.
@@ -20,8 +20,8 @@ pub struct Asked<'a> {
 #[derive(Clone, Debug, PartialEq, Eq)]
 pub enum Verdict {
     Flat(Vec<u8>, u32),
-    /// A list is not well formed.
-    BadList(Refusal),
+    /// A list is not well formed: which, and what is wrong with it.
+    BadList(Refusal, Flaw),
     /// The refusal of the run, and the tokens begun.
     Stopped(Refusal, u32),
 }
@@ -31,7 +31,7 @@ impl Verdict {
     pub fn tokens(&self) -> u32 {
         match self {
             Verdict::Flat(_, tokens) | Verdict::Stopped(_, tokens) => *tokens,
-            Verdict::BadList(_) => 0,
+            Verdict::BadList(..) => 0,
         }
     }
 
@@ -98,24 +98,25 @@ struct Run<'a> {
 
 /// 1, 2, then the run's first refusal.
 pub fn flattened(asked: &Asked) -> Verdict {
-    let counts = [asked.globals, asked.locals].map(|list| indexes::formed(list).ok());
-    match Lists::known(asked.globals, asked.locals, counts) {
+    let formed = [asked.globals, asked.locals].map(indexes::formed);
+    match Lists::known(asked.globals, asked.locals, formed) {
         Ok(lists) => lists.flattened(asked.charstring, asked.strict, asked.budget).0,
-        Err(refusal) => Verdict::BadList(refusal),
+        Err(bad) => bad,
     }
 }
 
 impl<'a> Lists<'a> {
-    /// 1, then 2, by the counts of the lists that are well formed.
+    /// 1, then 2, by the count of each list or what is wrong with it.
     pub fn known(
         globals: &'a [u8],
         locals: &'a [u8],
-        counts: [Option<u32>; 2],
-    ) -> Result<Self, Refusal> {
-        let [global, local] = counts;
+        formed: [Result<u32, Flaw>; 2],
+    ) -> Result<Self, Verdict> {
+        let [global, local] = formed;
+        let bad = |refusal| move |flaw| Verdict::BadList(refusal, flaw);
         Ok(Lists {
-            globals: List { bytes: globals, count: global.ok_or(1u32)? },
-            locals: List { bytes: locals, count: local.ok_or(2u32)? },
+            globals: List { bytes: globals, count: global.map_err(bad(1))? },
+            locals: List { bytes: locals, count: local.map_err(bad(2))? },
         })
     }
 

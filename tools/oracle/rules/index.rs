@@ -17,12 +17,26 @@ pub struct Entry {
     pub length: usize,
 }
 
-/// Why a list is not well formed: its refusal, or a bad entry, the first one. A list that a last
-/// offset of 0 emptied has no entry 0.
+/// What is wrong with a list: the refusal of its INDEX, or an entry that is absent and the first reason why.
 #[derive(Clone, Copy, Debug, PartialEq, Eq)]
-pub enum Fault {
-    Refused(Refusal),
-    Bad(u32),
+pub enum Flaw {
+    Unread(Refusal),
+    Entry(u32, Refusal),
+}
+
+impl Flaw {
+    pub fn reason(self) -> Refusal {
+        match self {
+            Flaw::Unread(refusal) | Flaw::Entry(_, refusal) => refusal,
+        }
+    }
+
+    pub fn entry(self) -> Option<u32> {
+        match self {
+            Flaw::Unread(_) => None,
+            Flaw::Entry(entry, _) => Some(entry),
+        }
+    }
 }
 
 /// The INDEX at the start of `bytes`: 20 for the count, 20 for the size byte, 21, 20.
@@ -47,33 +61,48 @@ pub fn read(bytes: &[u8]) -> Result<Extent, Refusal> {
     Ok(Extent { entries: count as u32, taken })
 }
 
-/// Entry `i`: the refusals of reading, then 25.
+/// Entry `i`: the refusals of reading, then the first reason why it is absent.
 pub fn entry(bytes: &[u8], i: u32) -> Result<Entry, Refusal> {
-    let Extent { entries, taken } = read(bytes)?;
-    if i >= entries {
-        return Err(25);
+    read(bytes)?;
+    if let Some(&reason) = reasons(bytes, i).first() {
+        return Err(reason);
     }
-    let size = usize::from(bytes[2]);
-    let start = data_start(entries as usize, size);
-    let offset = |i: usize| number(bytes, 3 + i * size, size).unwrap_or(0);
-    let (from, to) = (offset(i as usize), offset(i as usize + 1));
-    if from == 0 || to == 0 || to < from || taken < start + to - 1 {
-        return Err(25);
-    }
+    let (from, to) = (offset(bytes, i as usize), offset(bytes, i as usize + 1));
+    let start = data_start(count(bytes)?, usize::from(bytes[2]));
     Ok(Entry { place: start + from - 1, length: to - from })
 }
 
-/// The count of a well-formed list: the read is accepted, a count that is not 0 left entries, and
-/// every entry is present.
-pub fn formed(bytes: &[u8]) -> Result<u32, Fault> {
-    let entries = read(bytes).map_err(Fault::Refused)?.entries;
-    if entries == 0 && count(bytes) != Ok(0) {
-        return Err(Fault::Bad(0));
+/// All reasons why entry `i` of an INDEX that is read is absent, in the order in which they are tested: 40 for a last offset
+/// of 0, 25, 40, 41, 42.
+pub fn reasons(bytes: &[u8], i: u32) -> Vec<Refusal> {
+    let (count, i) = (count(bytes).unwrap_or(0), i as usize);
+    let emptied = count > 0 && offset(bytes, count) == 0;
+    if emptied || i >= count {
+        return held([(emptied, 40), (i >= count, 25)]);
     }
-    match (0..entries).find(|&i| entry(bytes, i).is_err()) {
-        Some(bad) => Err(Fault::Bad(bad)),
-        None => Ok(entries),
+    let (from, to, last) = (offset(bytes, i), offset(bytes, i + 1), offset(bytes, count));
+    held([(from == 0 || to == 0, 40), (to < from, 41), (to > last, 42)])
+}
+
+/// The refusals whose condition holds.
+fn held<const N: usize>(tests: [(bool, Refusal); N]) -> Vec<Refusal> {
+    tests.into_iter().filter(|(holds, _)| *holds).map(|(_, refusal)| refusal).collect()
+}
+
+/// The count of a well-formed list: the read is accepted, and every entry is present.
+pub fn formed(bytes: &[u8]) -> Result<u32, Flaw> {
+    match flaws(bytes).next() {
+        Some(flaw) => Err(flaw),
+        None => Ok(count(bytes).unwrap_or(0) as u32),
     }
+}
+
+/// All that is wrong with a list, in the order of its entries.
+pub fn flaws(bytes: &[u8]) -> impl Iterator<Item = Flaw> + '_ {
+    let unread = read(bytes).err();
+    let entries = if unread.is_some() { 0 } else { count(bytes).unwrap_or(0) as u32 };
+    let absent = move |i| Some(Flaw::Entry(i, *reasons(bytes, i).first()?));
+    unread.map(Flaw::Unread).into_iter().chain((0..entries).filter_map(absent))
 }
 
 /// The INDEX of elements with these lengths and these joined data: 22, 23, 24.
@@ -117,6 +146,12 @@ fn offset_size(last: u64) -> u32 {
 
 fn count(bytes: &[u8]) -> Result<usize, Refusal> {
     number(bytes, 0, 2).ok_or(20)
+}
+
+/// Offset `i` of an INDEX that is read.
+fn offset(bytes: &[u8], i: usize) -> usize {
+    let size = usize::from(bytes[2]);
+    number(bytes, 3 + i * size, size).expect("the INDEX has its offsets")
 }
 
 fn data_start(count: usize, size: usize) -> usize {
