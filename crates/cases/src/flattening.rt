@@ -46,7 +46,7 @@ fn profile(strict: bool) -> Profile {
     Profile::Plain
 }
 
-// `0 N TOKENS HEX`; `1 ENTRY REASON`, and the same for 2.
+// `0 N TOKENS HEX`; `1 ENTRY REASON` or `1 REASON`, and the same for 2.
 fn flattened(answer: Flattened, room: &[u8]) -> Line {
     let line = Line::of(answer.number());
     match answer {

@@ -122,7 +122,7 @@ fn index_written(answer: IndexWritten, room: &[u8]) -> Line {
     }
 }
 
-// `0 COUNT`, or `REASON ENTRY`.
+// `0 COUNT`; `REASON ENTRY`, or the INDEX's refusal.
 fn formed(answer: Formed) -> Line {
     let line = Line::of(answer.number());
     match answer {

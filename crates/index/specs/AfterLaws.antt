@@ -2,7 +2,7 @@
 use mathlib.Core.Path.{_≡_, refl, sym, ap, _∙_}
 use mathlib.Core.Bool.{Bool, true, false, cond}
 use mathlib.Core.List.{List, _++_}
-use Prim.Native.Nat.{ℕ, zero, suc, _+_, _-_, _*_, _<_, _≤_}
+use Prim.Native.Nat.{ℕ, zero, suc, _+_, _*_, _<_, _≤_}
 use native.Mathlib.Nat.{le-refl}
 use native.Mathlib.Omega.{arith}
 use lib.Dec.{eqb, ltb}
@@ -12,7 +12,7 @@ use borrow.Author.Tests.{ltb-true, ltb-false}
 use Rattle.number.specs.Answer.{Answer, accepted, refused, alone}
 use Rattle.number.specs.BigEndian.{beAt}
 use Rattle.index.specs.Index.{Place, dataStart, offset, extent, placeIn, place, bytesBy, part}
-use Rattle.index.specs.Formed.{unless, entriesFrom, formedBy, formation}
+use Rattle.index.specs.Formed.{entriesFrom, formedBy, formation}
 use Rattle.index.specs.OffsetLaws.{start-is, start-mono}
 use Rattle.index.specs.Code.{offsetOf, Headed, reach, Full, Inside}
 use Rattle.index.specs.IndexLaws.{has, Shape, none, emptied, full, shape, entries-full, size-there, count-zero, last-zero, full-read}

@@ -1,6 +1,5 @@
 -- That the flat string of an accepted flattening is the same glyph, over any rules, and comes back when it is flattened again. Assumes nothing.
 use mathlib.Core.Path.{_≡_, refl, sym, ap, subst, _∙_}
-use mathlib.Core.Bool.{cond}
 use mathlib.Core.List.{List, [], _∷_, _++_}
 use Prim.Native.Nat.{ℕ, zero, suc, _≤_}
 use native.Mathlib.Nat.{zero-add}
@@ -8,7 +7,7 @@ use native.Mathlib.Omega.{arith}
 use lib.ListN.{length, getD, take, drop, replicate, length-replicate}
 use lib.Seq.{take-at}
 use borrow.Author.Tests.{le-ltb}
-use lib.Dec.{eqb, lit<}
+use lib.Dec.{lit<}
 use Rattle.number.specs.Answer.{Answer, accepted, refused, Outcome, leaving, into}
 use Rattle.number.specs.AnswerLaws.{into-fits}
 use Rattle.index.specs.Index.{Place, extent, byCount, place, bytesBy, part}

@@ -48,28 +48,21 @@ fn texts_tell_what_is_wrong_with_a_list() {
         reason,
         ..alone(refusal)
     };
-    let entry = |reason| list(Refusal::BadLocals, Some(812), Some(reason)).to_string();
-    assert_eq!(
-        entry(Refusal::ZeroOffset),
-        "refusal 2: the local list's entry 812: an offset, or the list's last, is 0"
-    );
-    assert_eq!(
-        entry(Refusal::Descending),
-        "refusal 2: the local list's entry 812: its offsets descend"
-    );
-    assert_eq!(
-        entry(Refusal::PastData),
-        "refusal 2: the local list's entry 812: its offsets pass the data"
-    );
-    let whole = |reason| list(Refusal::BadGlobals, None, Some(reason)).to_string();
-    assert_eq!(
-        whole(Refusal::IndexLacking),
-        "refusal 1: the global list's bytes end too soon"
-    );
-    assert_eq!(
-        whole(Refusal::OffsetSize),
-        "refusal 1: the global list's offset size is not 1 to 4"
-    );
+    let absent = [
+        (Refusal::ZeroOffset, "an offset, or the list's last, is 0"),
+        (Refusal::Descending, "its offsets descend"),
+        (Refusal::PastData, "its offsets pass the data"),
+    ];
+    for (reason, clause) in absent {
+        let refused = list(Refusal::BadLocals, Some(812), Some(reason));
+        let said = format!("refusal 2: the local list's entry 812: {clause}");
+        assert_eq!(refused.to_string(), said);
+    }
+    let unread = |reason| list(Refusal::BadGlobals, None, Some(reason)).to_string();
+    let said = "refusal 1: the global list's bytes end too soon";
+    assert_eq!(unread(Refusal::IndexLacking), said);
+    let said = "refusal 1: the global list's offset size is not 1 to 4";
+    assert_eq!(unread(Refusal::OffsetSize), said);
     says(list(Refusal::PastData, Some(812), None), " (entry 812)");
 }
 

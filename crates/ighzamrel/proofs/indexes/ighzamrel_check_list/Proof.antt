@@ -1,7 +1,7 @@
 -- `ighzamrel_check_list` tells what `check_list` answers: the count, or the entry that comes with its refusal. Assumes nothing.
 use mathlib.Core.Path.{ap, _∙_}
 use Prim.Native.Nat.{ℕ}
-use Rattle.ighzamrel.specs.Told.{Told, ListPlaces, told, tell}
+use Rattle.ighzamrel.specs.Told.{told, tell}
 use Rattle.ighzamrel.specs.ToldLaws.{tell-known}
 use Rattle.index.specs.Formed.{formed}
 use borrow.Author.Needs.{needs}
