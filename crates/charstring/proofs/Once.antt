@@ -51,7 +51,7 @@ flattened-of (refused k v) =
 
 -- a refusal's number is none of 1, 2 and 13
 as-refused : (k : Refusal) (t : ℕ) → flattened-of (flattened (Refused k t)) ≡ Refused (refusal-of (numberOf k)) t
-unfolding flattened-of
+unfolding flattened-of tokensOr
 as-refused BudgetSpent t = refl
 as-refused BytesLacking t = refl
 as-refused TooManyOperands t = refl
@@ -64,7 +64,7 @@ as-refused TooManyHints t = refl
 as-refused Composite t = refl
 
 flattened-undo : (r : Flattened) → flattened-of (flattened r) ≡ r
-unfolding flattened-of entryOr
+unfolding flattened-of tokensOr entryOr
 flattened-undo (Accepted n t) = refl
 flattened-undo (BadGlobals f) = ap BadGlobals (flaw-undo f)
 flattened-undo (BadLocals f) = ap BadLocals (flaw-undo f)

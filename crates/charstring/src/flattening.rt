@@ -92,8 +92,9 @@ pub fn measure<'a>(
     draft(cs, globals, locals, profile, budget, &mut held)
 }
 
-// The verdict on a charstring, and of its flat string as many bytes as held has room for.
-fn draft<'a>(
+// The verdict on a charstring, and at the start of held as many bytes of its flat string as there is room for. What else held has is
+// anything. An entry that a list lacks answers 9.
+pub fn draft<'a>(
     cs: &'a [u8],
     globals: &'a [u8],
     locals: &'a [u8],

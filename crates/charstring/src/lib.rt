@@ -10,6 +10,7 @@ mod stretch;
 mod subroutines;
 mod token;
 
+pub use crate::flattening::draft;
 pub use crate::flattening::flatten;
 pub use crate::flattening::measure;
 pub use crate::flattening::write;

@@ -77,14 +77,14 @@ pub extern "C" fn ighzamrel_flatten<'a>(
 }
 
 // Tells a list's flaw, which is the reason of another refusal.
-fn tell_flaw(flaw: Flaw, entry: &mut u32, reason: &mut u32)
+pub(crate) fn tell_flaw(flaw: Flaw, entry: &mut u32, reason: &mut u32)
     ensures { λ _. ⌜ (now («entry» .exit) ≡ entryOr (now («entry» .entry)) (reasonAt flaw)) × (now (reason .exit) ≡ reasonOf flaw) ⌝ }
 {
     *reason = flaw.number();
     tell_entry(flaw, entry);
 }
 
-fn profile_of(profile: u32) -> Profile
+pub(crate) fn profile_of(profile: u32) -> Profile
     ensures { λ r. ⌜ r ≡ profileOf profile ⌝ }
 {
     if profile == 0 {

@@ -5,10 +5,12 @@
 //
 // `kind` is 0 for an integer, else a Fixed; `profile` is 0 for plain, else strict.
 mod flattening;
+mod fonts;
 mod indexes;
 mod numbers;
 
 pub use crate::flattening::ighzamrel_flatten;
+pub use crate::fonts::ighzamrel_flatten_font;
 pub use crate::indexes::ighzamrel_check_list;
 pub use crate::indexes::ighzamrel_read_entry;
 pub use crate::indexes::ighzamrel_read_index;

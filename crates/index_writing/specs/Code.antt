@@ -1,11 +1,8 @@
 -- What the private functions promise each other, and what the laws are about. A reader need not believe it: no public contract names it.
 use Prim.Native.Nat.{ℕ, _+_, _*_, _<_, _≤_, _^_}
-use mathlib.Core.Bool.{cond}
 use mathlib.Core.Path.{_≡_}
 use mathlib.Core.List.{List, _++_}
-use lib.Dec.{eqb}
 use lib.ListN.{length, take, drop}
-use Rattle.index.specs.Index.{dataStart}
 use Rattle.index_writing.specs.Writing.{total}
 
 -- s with bs from `at` on
@@ -17,7 +14,3 @@ pub record Writable (w : ℕ) (ls joined : List ℕ) : Type 0 where
   pub few : length ls < 2 ^ (8 * w)
   pub short : total ls + 1 ≤ 4294967295
   pub adds : total ls ≡ length joined
-
--- how many bytes an INDEX takes that has n elements, offsets of z bytes, and d bytes of data
-unfoldable pub reachOf : ℕ → ℕ → ℕ → ℕ → ℕ
-reachOf w n z d = cond (eqb n 0) w (dataStart w n z + d)

@@ -7,6 +7,9 @@ use lib.ListN.{length, getD, take, drop}
 use lib.Dec.{leb, ltb, eqb}
 use Rattle.number.specs.Answer.{Answer, accepted, refused, alone, needing, mapped, Outcome, sized, into}
 use Rattle.number.specs.BigEndian.{bytesOf}
+use Rattle.index.specs.Index.{dataStart}
+use Rattle.index_writing.specs.declared.IndexPlan.{IndexPlan}
+use Rattle.index_writing.specs.declared.IndexPlan.the-variants.{Of, TooLong as Over}
 use Rattle.index_writing.specs.declared.IndexWritten.{IndexWritten}
 use Rattle.index_writing.specs.declared.IndexWritten.the-variants.{Bytes, NoRoom, TooMany, TooLong, Mismatch}
 
@@ -61,3 +64,24 @@ indexWritten (NoRoom n) = refused 13 (needing n)
 indexWritten TooMany = refused 22 alone
 indexWritten TooLong = refused 23 alone
 indexWritten Mismatch = refused 24 alone
+
+-- ---- how an INDEX is laid out
+
+-- how many bytes an INDEX takes that has n elements, offsets of z bytes, and d bytes of data
+unfoldable pub reachOf : ℕ → ℕ → ℕ → ℕ → ℕ
+reachOf w n z d = cond (eqb n 0) w (dataStart w n z + d)
+
+-- The offset size, and how many bytes the INDEX takes.
+pub record Plan : Type 0 where
+  pub size : ℕ
+  pub reach : ℕ
+
+-- of n elements that have d bytes together
+unfoldable pub planOf : ℕ → ℕ → ℕ → Answer Plan
+planOf w n d =
+    let z = sizeFor (d + 1) in
+    cond (ltb 4294967295 (d + 1)) (refused 23 alone) (accepted (record { size = z; reach = reachOf w n z d }))
+
+abbrev pub indexPlan : IndexPlan → Answer Plan
+indexPlan (Of z n) = accepted (record { size = z; reach = n })
+indexPlan Over = refused 23 alone

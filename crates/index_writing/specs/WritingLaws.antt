@@ -2,62 +2,25 @@
 use mathlib.Core.Path.{_≡_, refl, sym, ap, _∙_}
 use mathlib.Core.Bool.{Bool, true, false, cond}
 use mathlib.Core.List.{List, [], _∷_, _++_, append-nil, append-assoc}
-use Prim.Native.Nat.{ℕ, suc, _+_, _*_, _<_, _≤_, _^_}
+use Prim.Native.Nat.{ℕ, _+_, _*_, _<_, _≤_, _^_}
 use native.Mathlib.Numerals.{add-one}
-use native.Mathlib.Nat.{zero-add, add-zero, add-assoc, add-mul, one-mul}
+use native.Mathlib.Nat.{zero-add, add-mul, one-mul}
 use native.Mathlib.Omega.{arith}
-use lib.Dec.{leb, eqb}
-use lib.ListN.{length, getD, take, drop, set, length-append, length-drop, take-append-drop, drop-of-length-le}
-use lib.Seq.{drop-cons, drop-drop, drop-append-add, length-take-le, take-at, set-split}
-use borrow.Author.Tests.{lt-ltb, le-ltb, le-leb, lt-leb, eq-eqb, ne-eqb, leb-true, eqb-true, eqb-false}
+use lib.Dec.{leb, ltb, eqb}
+use lib.ListN.{length, getD, drop, set, length-append, drop-of-length-le}
+use lib.Seq.{drop-cons}
+use borrow.Author.Tests.{lt-ltb, le-ltb, le-leb, lt-leb, eq-eqb, ne-eqb, leb-true, ltb-true, ltb-false, eqb-true, eqb-false}
 use Rattle.number.specs.Answer.{Answer, accepted, refused, alone, needing, Outcome, leaving, sized, into}
+use Rattle.number.specs.AnswerLaws.{accepted-same}
 use Rattle.number.specs.BigEndian.{bytesOf, putAt}
 use Rattle.number.specs.BigEndianLaws.{length-bytes}
 use Rattle.index.specs.Index.{dataStart}
+use Rattle.index.specs.IndexLaws.{not-refused}
 use Rattle.index.specs.OffsetLaws.{start-is, start-mono}
-use Rattle.index_writing.specs.Code.{laid, Writable, reachOf}
+use Rattle.index_writing.specs.Code.{laid, Writable}
+use Rattle.index_writing.specs.LaidLaws.{laid-append, laid-one, laid-put, laid-first, length-laid}
 use Rattle.index_writing.specs.Writing.{total, sizeFor, offsets, behindCount, indexBytes, indexOf, writeIndex}
-
--- ---- bytes laid over others
-
-drop-past : (p d : List ℕ) {n : ℕ} (k : ℕ) → length p ≡ n → drop (n + k) (p ++ d) ≡ drop k d
-drop-past p d k e = rw (← e) (drop-append-add p d k)
-
--- the first bytes, and then those behind them
-laid-append : (at : ℕ) (xs ys s : List ℕ) → at ≤ length s → laid (at + length xs) ys (laid at xs s) ≡ laid at (xs ++ ys) s
-unfolding laid
-laid-append at xs ys s h =
-    let p = take at s ++ xs in
-    let d = drop (at + length xs) s in
-    let n : length p ≡ at + length xs = length-append (take at s) xs ∙ ap (λ (k : ℕ). k + length xs) (length-take-le at s h) in
-    rw (← append-assoc (take at s) xs d, take-at p d (at + length xs) n, drop-past p d (length ys) n, drop-drop (length ys) (at + length xs) s)
-    (simp (append-assoc, length-append, add-assoc))
-
-laid-one : (at x : ℕ) (s : List ℕ) → at < length s → set s at x ≡ laid at (x ∷ []) s
-unfolding laid
-laid-one at x s h = rw (set-split s at x h, add-one at)
-
-laid-none : (at : ℕ) (s : List ℕ) → laid at [] s ≡ s
-unfolding laid
-laid-none at s = rw add-zero (take-append-drop at s)
-
-laid-put : (at k v : ℕ) (s : List ℕ) → putAt s at k v ≡ laid at (bytesOf k v) s
-unfolding laid putAt
-laid-put at k v s = rw (length-bytes k v)
-
-laid-first : (bs s : List ℕ) → laid 0 bs s ≡ bs ++ drop (length bs) s
-unfolding laid
-laid-first bs s = rw (zero-add (length bs))
-
--- the next byte of ys, and then those behind it
-module _ (at i : ℕ) (ys s : List ℕ) where
-  pub laid-step : i < length ys → at + i < length s → laid (at + (i + 1)) (drop (i + 1) ys) (set s (at + i) (getD ys i 0)) ≡ laid (at + i) (drop i ys) s
-  laid-step h k =
-      let x = getD ys i 0 in
-      rw (laid-one (at + i) x s k, ← add-assoc at i 1, add-one i, drop-cons ys i 0 h) (laid-append (at + i) (x ∷ []) (drop (suc i) ys) s (omega arith))
-
-  pub laid-end : length ys ≤ i → laid (at + i) (drop i ys) s ≡ s
-  laid-end h = rw (drop-of-length-le ys h) (laid-none (at + i) s)
+use Rattle.index_writing.specs.Writing.{reachOf, Plan, planOf}
 
 -- ---- the sum of the lengths
 
@@ -202,9 +165,6 @@ module _ (w : ℕ) (ls joined : List ℕ) where
 laid-next : (at : ℕ) (xs ys s : List ℕ) → length xs ≡ at → laid at ys (laid 0 xs s) ≡ laid 0 (xs ++ ys) s
 laid-next at xs ys s e = ap (λ (n : ℕ). laid n ys (laid 0 xs s)) (sym e ∙ sym (zero-add (length xs))) ∙ laid-append 0 xs ys s (omega arith)
 
-length-laid : (bs s : List ℕ) → length bs ≤ length s → length (laid 0 bs s) ≡ length s
-length-laid bs s h = ap length (laid-first bs s) ∙ length-append bs (drop (length bs) s) ∙ rw (length-drop (length bs) s) (omega arith)
-
 module _ (w : ℕ) (ls joined s : List ℕ) (z : ℕ) (sized : z ≡ sizeFor (total ls + 1)) where
   -- no elements: the count alone
   pub none-laid : length ls ≡ 0 → putAt s 0 w (length ls) ≡ laid 0 (indexBytes w ls joined) s
@@ -219,7 +179,7 @@ module _ (w : ℕ) (ls joined s : List ℕ) (z : ℕ) (sized : z ≡ sizeFor (to
       let nb : length b ≡ w = length-bytes w (length ls) in
       let n1 : length (b ++ (z ∷ [])) ≡ w + 1 = length-append b (z ∷ []) ∙ ap (λ (n : ℕ). n + 1) nb in
       let n2 : length ((b ++ (z ∷ [])) ++ o) ≡ dataStart w (length ls) z = length-append (b ++ (z ∷ [])) o ∙ rw (n1, length-offsets z 1 ls) in
-      let room : w < length (laid 0 b s) = rw (length-laid b s (omega arith)) k in
+      let room : w < length (laid 0 b s) = rw (length-laid 0 b s (omega arith)) k in
       let joins : ((b ++ (z ∷ [])) ++ o) ++ joined ≡ b ++ (z ∷ (o ++ joined)) = simp append-assoc in
       rw (
         laid-put 0 w (length ls) s,
@@ -237,6 +197,41 @@ module _ (w : ℕ) (ls joined s : List ℕ) (z : ℕ) (sized : z ≡ sizeFor (to
       → l ≡ laid (dataStart w (length ls) z) joined o → l ≡ laid 0 (indexBytes w ls joined) s
   some-laid h k p o l ep eo el =
       el ∙ ap (laid (dataStart w (length ls) z) joined) (eo ∙ ap (λ (q : List ℕ). laid (w + 1) (offsets z 1 ls) (set q w z)) ep) ∙ in-turn h k
+
+-- ---- a plan
+
+module _ (w n d : ℕ) where
+  abbrev laidOut : Answer Plan
+  laidOut = accepted (record { size = sizeFor (d + 1); reach = reachOf w n (sizeFor (d + 1)) d })
+
+  pub plan-long : 4294967295 < d + 1 → refused 23 alone ≡ planOf w n d
+  unfolding planOf
+  plan-long h = rw (lt-ltb 4294967295 (d + 1) h)
+
+  pub plan-short : d + 1 ≤ 4294967295 → laidOut ≡ planOf w n d
+  unfolding planOf
+  plan-short h = rw (le-ltb 4294967295 (d + 1) h)
+
+  -- what a plan says, and what it says that there is none
+  pub planned : (z m : ℕ) → accepted (record { size = z; reach = m }) ≡ planOf w n d
+      → (d + 1 ≤ 4294967295) × (z ≡ sizeFor (d + 1)) × (m ≡ reachOf w n z d)
+  planned z m e = go (ltb 4294967295 (d + 1)) refl
+    where
+      go : (t : Bool) → ltb 4294967295 (d + 1) ≡ t → (d + 1 ≤ 4294967295) × (z ≡ sizeFor (d + 1)) × (m ≡ reachOf w n z d)
+      go true q = absurd (not-refused (e ∙ sym (plan-long (ltb-true _ _ q))))
+      go false q =
+          let h = ltb-false _ _ q in
+          let k : _≡_ {A = Plan} (record { size = z; reach = m }) (record { size = sizeFor (d + 1); reach = reachOf w n (sizeFor (d + 1)) d }) =
+          accepted-same (e ∙ sym (plan-short h)) in
+          let same : z ≡ sizeFor (d + 1) = ap (λ (p : Plan). p .size) k in
+          (h, same, ap (λ (p : Plan). p .reach) k ∙ ap (λ (x : ℕ). reachOf w n x d) (sym same))
+
+  pub unplanned : refused 23 alone ≡ planOf w n d → 4294967295 < d + 1
+  unplanned e = go (ltb 4294967295 (d + 1)) refl
+    where
+      go : (t : Bool) → ltb 4294967295 (d + 1) ≡ t → 4294967295 < d + 1
+      go true q = ltb-true _ _ q
+      go false q = absurd (not-refused (plan-short (ltb-false _ _ q) ∙ sym e))
 
 -- ---- the outcome
 

@@ -8,7 +8,8 @@ ghost use Rattle.number.specs.Answer.{numberIn, leaving};
 ghost use Rattle.number.specs.BigEndian.{putAt};
 ghost use Rattle.index.specs.Index.{dataStart};
 ghost use Rattle.index_writing.specs.Writing.{total, sizeFor, offsets, indexBytes, writeIndex, indexWritten};
-ghost use Rattle.index_writing.specs.Code.{laid, reachOf, Writable};
+ghost use Rattle.index_writing.specs.Writing.{reachOf, planOf, indexPlan};
+ghost use Rattle.index_writing.specs.Code.{laid, Writable};
 
 // What writing an INDEX did.
 pub enum IndexWritten {
@@ -22,6 +23,14 @@ pub enum IndexWritten {
     TooLong,
     // The lengths do not add up to the data's: nothing is changed.
     Mismatch,
+}
+
+// How an INDEX is laid out.
+pub enum IndexPlan {
+    // The offset size, and how many bytes the INDEX takes.
+    Of(usize, usize),
+    // The last offset is over 4294967295.
+    TooLong,
 }
 
 impl IndexWritten {
@@ -48,19 +57,28 @@ pub fn write_index(lengths: &[u32], joined: &[u8], out: &mut [u8]) -> IndexWritt
         return IndexWritten::TooMany;
     }
     let sum = sum_of(lengths);
-    if 4294967295 <= sum {
+    let IndexPlan::Of(size, needed) = plan_index(count as u32, sum) else {
         return IndexWritten::TooLong;
-    }
+    };
     if sum != joined.len() as u64 {
         return IndexWritten::Mismatch;
     }
-    let size = size_for((sum + 1) as u32);
-    let needed = needed_for(count, size, joined.len());
     if out.len() < needed {
         return IndexWritten::NoRoom(needed);
     }
     put_index(lengths, joined, size, out);
     IndexWritten::Bytes(needed)
+}
+
+// The offset size of an INDEX of `count` elements that have `sum` bytes together, and how many bytes it takes.
+pub fn plan_index(count: u32, sum: u64) -> IndexPlan
+    ensures { λ r. ⌜ indexPlan r ≡ planOf 2 count sum ⌝ }
+{
+    if 4294967295 <= sum {
+        return IndexPlan::TooLong;
+    }
+    let size = size_for((sum + 1) as u32);
+    IndexPlan::Of(size, needed_for(count as usize, size, sum as usize))
 }
 
 // The sum of the lengths: of so few it cannot wrap.
@@ -95,7 +113,7 @@ fn size_for(last: u32) -> usize
 
 // How many bytes an INDEX takes.
 fn needed_for(count: usize, size: usize, data_length: usize) -> usize
-    requires { ⌜ (count ≤ 65535) × (size ≤ 4) × (data_length ≤ 4294967295) ⌝ }
+    requires { ⌜ (count ≤ 4294967295) × (size ≤ 4) × (data_length ≤ 4294967295) ⌝ }
     ensures { λ r. ⌜ r ≡ reachOf 2 count size data_length ⌝ }
 {
     if count == 0 {

@@ -5,8 +5,8 @@ use mathlib.Core.List.{List, _++_}
 use lib.Dec.{leb}
 use lib.ListN.{length, drop}
 
--- What comes with a refusal: nothing; the tokens run; the length that is needed; that length and the tokens; the number of an entry; or the
--- refusal that is its reason, with what comes with that one.
+-- What comes with a refusal: nothing; the tokens run; the length that is needed; that length and the tokens; the number of an entry; the
+-- refusal that is its reason, with what comes with that one; or the number of the glyph whose refusal it is, with what comes with that.
 pub data Values : Type 0 where
   alone : Values
   atToken : ℕ → Values
@@ -14,6 +14,7 @@ pub data Values : Type 0 where
   needingAt : ℕ → ℕ → Values
   atEntry : ℕ → Values
   because : ℕ → Values → Values
+  atGlyph : ℕ → Values → Values
 
 -- Accepted, which is number 0, with what is given back; or refused, with the number and the values that come with it.
 pub data Answer (A : Type 0) : Type 0 where
@@ -30,7 +31,7 @@ abbrev pub mapped : {A B : Type 0} → (A → B) → Answer A → Answer B
 mapped f (accepted x) = accepted (f x)
 mapped f (refused n v) = refused n v
 
--- the length that comes with a refusal, the tokens, the entry and the reason, or what was there before
+-- the length that comes with a refusal, the tokens, the entry, the reason and the glyph, or what was there before
 abbrev pub lengthOr : ℕ → Values → ℕ
 lengthOr old alone = old
 lengthOr old (atToken t) = old
@@ -38,14 +39,16 @@ lengthOr old (needing n) = n
 lengthOr old (needingAt n t) = n
 lengthOr old (atEntry i) = old
 lengthOr old (because k v) = old
+lengthOr old (atGlyph i v) = old
 
-abbrev pub tokensOr : ℕ → Values → ℕ
+unfoldable pub tokensOr : ℕ → Values → ℕ
 tokensOr old alone = old
 tokensOr old (atToken t) = t
 tokensOr old (needing n) = old
 tokensOr old (needingAt n t) = t
 tokensOr old (atEntry i) = old
 tokensOr old (because k v) = old
+tokensOr old (atGlyph i v) = tokensOr old v
 
 unfoldable pub entryOr : ℕ → Values → ℕ
 entryOr old alone = old
@@ -54,6 +57,7 @@ entryOr old (needing n) = old
 entryOr old (needingAt n t) = old
 entryOr old (atEntry i) = i
 entryOr old (because k v) = entryOr old v
+entryOr old (atGlyph i v) = old
 
 abbrev pub reasonOr : ℕ → Values → ℕ
 reasonOr old alone = old
@@ -62,6 +66,16 @@ reasonOr old (needing n) = old
 reasonOr old (needingAt n t) = old
 reasonOr old (atEntry i) = old
 reasonOr old (because k v) = k
+reasonOr old (atGlyph i v) = old
+
+abbrev pub glyphOr : ℕ → Values → ℕ
+glyphOr old alone = old
+glyphOr old (atToken t) = old
+glyphOr old (needing n) = old
+glyphOr old (needingAt n t) = old
+glyphOr old (atEntry i) = old
+glyphOr old (because k v) = old
+glyphOr old (atGlyph i v) = i
 
 -- ---- bytes that are lent
 

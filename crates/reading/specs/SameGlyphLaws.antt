@@ -151,7 +151,7 @@ module _ (s : List ℕ) (h : Bytes s) where
   place-bytes (accepted p) = bytes-take (p .size) (drop (p .start) s) (bytes-drop (p .start) s h)
   place-bytes (refused k v) = λ i. lit< tt
 
-  part-bytes : (w k : ℕ) → Bytes (part w s k)
+  pub part-bytes : (w k : ℕ) → Bytes (part w s k)
   unfolding part
   part-bytes w k = place-bytes (place w s k)
 

@@ -6,7 +6,7 @@ use native.Mathlib.Omega.{arith}
 use lib.ListN.{length, drop, length-set}
 use borrow.Author.Needs.{needs}
 use Rattle.index_writing.specs.Code.{laid}
-use Rattle.index_writing.specs.WritingLaws.{laid-step, laid-end}
+use Rattle.index_writing.specs.LaidLaws.{laid-step, laid-end}
 use Rattle.index_writing.proofs.put_data.Statement.{statement}
 use Rattle.index_writing.proofs.put_data.Tie as tie
 

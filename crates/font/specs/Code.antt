@@ -1,0 +1,130 @@
+-- What the two passes promise each other. A reader need not believe it: no public contract names it.
+use mathlib.Core.Path.{_≡_}
+use mathlib.Core.List.{List, [], _∷_, _++_}
+use Prim.Native.Nat.{ℕ, zero, suc, _+_, _<_, _≤_}
+use lib.ListN.{length, take, set}
+use Rattle.number.specs.Answer.{Answer, accepted, refused, atToken, atGlyph, mapped, Outcome, sized, into}
+use Rattle.index.specs.Index.{dataStart, part}
+use Rattle.index_writing.specs.Writing.{total, sizeFor, offsets, reachOf}
+use Rattle.index_writing.specs.Code.{laid}
+use Rattle.reading.specs.Rules.{rulesOf}
+use Rattle.reading.specs.Reading.{Run, original}
+use Rattle.reading.specs.Answers.{Flattening, verdict, numberOf}
+use Rattle.reading.specs.declared.Profile.{Profile}
+use Rattle.font.specs.Font.{flatIn, allFrom, lengthsOf, joinedOf, indexed}
+use Rattle.font.specs.declared.first.Survey.{Survey}
+use Rattle.font.specs.declared.first.Survey.the-variants.{Flat, Refused}
+
+-- ---- the glyphs of a font, and what each gives
+
+abbrev pub stringIn : Profile → List ℕ → List ℕ → ℕ → List ℕ → Answer (List ℕ)
+stringIn profile globals locals budget cs = flatIn (original (rulesOf profile) cs globals locals budget)
+
+abbrev pub glyphsOf : Profile → List ℕ → List ℕ → List ℕ → ℕ → ℕ → Answer (List ℕ)
+glyphsOf profile charstrings globals locals budget i = stringIn profile globals locals budget (part 2 charstrings i)
+
+-- the string that is given; none where it is refused
+abbrev pub stringOf : Answer (List ℕ) → List ℕ
+stringOf (accepted f) = f
+stringOf (refused k v) = []
+
+abbrev pub Is : Answer (List ℕ) → Type 0
+Is a = a ≡ accepted (stringOf a)
+
+module _ (glyph : ℕ → Answer (List ℕ)) where
+  -- those of n glyphs from number i on
+  unfoldable pub strings : ℕ → ℕ → List (List ℕ)
+  strings i zero = []
+  strings i (suc n) = stringOf (glyph i) ∷ strings (i + 1) n
+
+  -- the bytes of the first n
+  unfoldable pub before : ℕ → ℕ
+  before n = total (lengthsOf (strings 0 n))
+
+  -- the first n are all accepted
+  abbrev pub Ran : ℕ → Type 0
+  Ran n = (j : ℕ) → j < n → Is (glyph j)
+
+  -- the outcome of n glyphs
+  abbrev pub allOf : ℕ → List ℕ → Outcome (Answer ℕ)
+  allOf n out = into out (mapped sized (indexed 2 (allFrom glyph 0 n)))
+
+  -- ---- what the first pass finds
+
+  pub record Measured (n sum : ℕ) : Type 0 where
+    pub few : n ≤ 65535
+    pub ran : Ran n
+    pub sum-is : sum ≡ before n
+
+  -- the lengths of the first n, and their bytes one behind the other
+  pub record Held (n : ℕ) (lengths joined : List ℕ) : Type 0 where
+    pub listed : take n lengths ≡ lengthsOf (strings 0 n)
+    pub bytes : take (before n) joined ≡ joinedOf (strings 0 n)
+
+  -- where there is room for them
+  abbrev pub Kept : ℕ → List ℕ → List ℕ → Type 0
+  Kept n lengths joined = n ≤ length lengths → before n ≤ length joined → Held n lengths joined
+
+  abbrev pub Surveyed : ℕ → List ℕ → List ℕ → Survey → Type 0
+  Surveyed n lengths joined (Flat sum) = Measured n sum × Kept n lengths joined
+  Surveyed n lengths joined (Refused i k t) = refused (numberOf k) (atGlyph i (atToken t)) ≡ allFrom glyph 0 n
+
+  -- ---- what the second pass stores
+
+  -- the INDEX of n, with offsets of z bytes, fills out
+  pub record Laid (n z : ℕ) (out : List ℕ) : Type 0 where
+    pub few : n ≤ 65535
+    pub ran : Ran n
+    pub short : before n + 1 ≤ 4294967295
+    pub size-is : z ≡ sizeFor (before n + 1)
+    pub long : length out ≡ reachOf 2 n z (before n)
+
+  -- and there are some
+  pub record Filled (n z : ℕ) (out : List ℕ) : Type 0 where
+    pub few : n ≤ 65535
+    pub four : z ≤ 4
+    pub ran : Ran n
+    pub short : before n + 1 ≤ 4294967295
+    pub long : length out ≡ dataStart 2 n z + before n
+
+  -- the offsets and the data behind the three bytes that stand first
+  unfoldable pub filled : ℕ → ℕ → List ℕ → List ℕ
+  filled n z out = laid 3 (offsets z 1 (lengthsOf (strings 0 n))) (take (dataStart 2 n z) out) ++ joinedOf (strings 0 n)
+
+-- ---- the leaves
+
+-- where the next string is kept, behind `sum` bytes
+abbrev pub Reached : ℕ → ℕ → ℕ → Type 0
+Reached sum room r = (r ≤ room) × (sum ≤ room → r ≡ sum)
+
+-- the length n of glyph i, whose string ends at sum
+abbrev pub Noted : ℕ → ℕ → ℕ → ℕ → List ℕ → List ℕ → Type 0
+Noted i n sum room old new = sum ≤ room → i < length old → new ≡ set old i n
+
+-- the refusal of a run
+abbrev pub OfRun : Answer Flattening → Type 0
+OfRun (accepted x) = ⊥
+OfRun (refused k v) = (r : Run) × (refused k v ≡ verdict r)
+
+-- told of glyph i
+abbrev pub Stopped : ℕ → Answer Flattening → Survey → Type 0
+Stopped i a (Flat sum) = ⊥
+Stopped i a (Refused j k t) = (j ≡ i) × (a ≡ refused (numberOf k) (atToken t))
+
+-- a string that is there, and has room from `to` on
+pub record Fits (a : Answer (List ℕ)) (to : ℕ) (out : List ℕ) : Type 0 where
+  pub is : Is a
+  pub small : length (stringOf a) < 4294967296
+  pub room : to + length (stringOf a) ≤ length out
+
+-- it stands there, and what comes before it has not changed
+pub record Begun (a : Answer (List ℕ)) (to : ℕ) (old new : List ℕ) (r : ℕ) : Type 0 where
+  pub told : r ≡ length (stringOf a)
+  pub bytes : take (to + length (stringOf a)) new ≡ take to old ++ stringOf a
+
+-- n lengths that are those of `sum` bytes
+pub record Whole (n sum : ℕ) (lengths joined : List ℕ) : Type 0 where
+  pub few : n ≤ 65535
+  pub listed : n ≤ length lengths
+  pub inside : sum ≤ length joined
+  pub adds : total (take n lengths) ≡ sum

@@ -1,0 +1,95 @@
+-- What the demands (docs/PROOFS.md, "The three demands") say of a whole font, as types. The proofs stand in DemandLaws.antt and RefusalLaws.antt.
+use Prim.Native.Nat.{ℕ, _+_, _<_, _≤_}
+use mathlib.Core.Path.{_≡_}
+use mathlib.Core.List.{List, [], _++_}
+use lib.ListN.{length, getD, take, drop}
+use Rattle.number.specs.Answer.{Values, alone, needing, because, atGlyph, accepted, refused, leaving}
+use Rattle.index.specs.Index.{extent, part}
+use Rattle.index.specs.Formed.{formation}
+use Rattle.index_writing.specs.Writing.{total}
+use Rattle.reading.specs.Rules.{Rules}
+use Rattle.reading.specs.Tokens.{Bytes}
+use Rattle.reading.specs.Flat.{straight}
+use Rattle.reading.specs.Answers.{Flattening, flattening}
+use Rattle.reading.specs.Masks.{StemsFirst, ByNote}
+use Rattle.reading.specs.Demands.{empty, SameGlyph}
+use Rattle.font.specs.Font.{lengthsOf, flattenFont}
+
+-- ---- glyph by glyph
+
+-- Flattening cs alone is accepted with x, and gives f in any room that takes it.
+pub record Alone (rules : Rules) (cs globals locals : List ℕ) (budget : ℕ) (f : List ℕ) : Type 0 where
+  pub x : Flattening
+  pub gives : (room : List ℕ) → x .size ≤ length room
+      → flattening rules cs globals locals budget room ≡ leaving (accepted x) (f ++ drop (x .size) room)
+
+-- of a glyph's charstring cs, and the string f that stands in its place
+pub record SameEntry (rules : Rules) (cs globals locals : List ℕ) (budget : ℕ) (f : List ℕ) : Type 0 where
+  -- Demand 2: f is the glyph's flat string.
+  pub one : Alone rules cs globals locals budget f
+  -- And demand 2's hint masks: where all stems of f stand before its first mask with bytes, each mask of f has TN5177's bytes.
+  pub masks : StemsFirst rules (straight rules f .items) → ByNote rules (straight rules f .items)
+  -- Demand 3: f is the same glyph.
+  pub same : SameGlyph rules cs globals locals budget (one .x) f
+
+-- ---- an accepted font
+
+-- F is what an accepted flattening leaves at the start of the room, and n its answer.
+pub record SameFont (rules : Rules) (charstrings globals locals : List ℕ) (budget n : ℕ) (F : List ℕ) : Type 0 where
+  -- F is as long as reported.
+  pub size : length F ≡ n
+  -- The CharStrings INDEX is well formed, with so many glyphs.
+  pub glyphs : ℕ
+  pub counted : formation (rules .width) charstrings ≡ accepted glyphs
+  -- F, whatever stands behind it, is well formed with as many entries,
+  pub formed : (rest : List ℕ) → formation (rules .width) (F ++ rest) ≡ accepted glyphs
+  -- and reading it takes exactly its bytes.
+  pub read : (rest : List ℕ) → extent (rules .width) (F ++ rest) ≡ accepted (record { entries = glyphs; taken = n })
+  -- Entry i is glyph i's flat string, and the same glyph.
+  pub entry : (rest : List ℕ) (i : ℕ) → i < glyphs
+      → SameEntry rules (part (rules .width) charstrings i) globals locals budget (part (rules .width) (F ++ rest) i)
+  -- Flattening F with two empty INDEXes, the same rules, the same budget and room for F gives F back, byte for byte.
+  pub again : (out : List ℕ) → n ≤ length out → flattenFont rules F (empty rules) (empty rules) budget out ≡ leaving (accepted n) (F ++ drop n out)
+
+abbrev pub FontDemand : Type 0
+FontDemand =
+    (rules : Rules) (charstrings globals locals : List ℕ) (budget : ℕ) (out : List ℕ) (n : ℕ) → Bytes charstrings → Bytes globals → Bytes locals
+    → flattenFont rules charstrings globals locals budget out .answer ≡ accepted n
+    → SameFont rules charstrings globals locals budget n (take n (flattenFont rules charstrings globals locals budget out .left))
+
+-- ---- a refused font
+
+abbrev pub IsFormed : Rules → List ℕ → Type 0
+IsFormed rules s = (n : ℕ) × (formation (rules .width) s ≡ accepted n)
+
+-- the refusals of a run
+abbrev pub RunRefusal : ℕ → Type 0
+RunRefusal k = (3 ≤ k) × (k ≤ 12)
+
+-- The refusals in turn, each with what comes with it; 22 and 24 are not among them.
+pub data Why (rules : Rules) (charstrings globals locals : List ℕ) (budget : ℕ) (out : List ℕ) : ℕ → Values → Type 0 where
+  bad-globals : (k : ℕ) (v : Values) → formation (rules .width) globals ≡ refused k v → Why rules charstrings globals locals budget out 1 (because k v)
+  bad-locals : (k : ℕ) (v : Values) → IsFormed rules globals → formation (rules .width) locals ≡ refused k v
+      → Why rules charstrings globals locals budget out 2 (because k v)
+  bad-charstrings : (k : ℕ) (v : Values) → IsFormed rules globals → IsFormed rules locals → formation (rules .width) charstrings ≡ refused k v
+      → Why rules charstrings globals locals budget out 26 (because k v)
+  -- Glyph i alone is refused so, whatever the room, and every glyph before it is accepted.
+  bad-glyph : (glyphs i k : ℕ) (v : Values) → formation (rules .width) charstrings ≡ accepted glyphs → i < glyphs → RunRefusal k
+      → ((room : List ℕ) → flattening rules (part (rules .width) charstrings i) globals locals budget room ≡ leaving (refused k v) room)
+      → ((j : ℕ) → j < i → (f : List ℕ) × Alone rules (part (rules .width) charstrings j) globals locals budget f)
+      → Why rules charstrings globals locals budget out k (atGlyph i v)
+  -- Every glyph is accepted, and the last offset passes 32 bits.
+  too-long : (fs : List (List ℕ)) → formation (rules .width) charstrings ≡ accepted (length fs)
+      → ((i : ℕ) → i < length fs → Alone rules (part (rules .width) charstrings i) globals locals budget (getD fs i []))
+      → 4294967295 < total (lengthsOf fs) + 1 → Why rules charstrings globals locals budget out 23 alone
+  -- A room of as many bytes as are needed would do.
+  no-room : (F : List ℕ)
+      → ((room : List ℕ) → length F ≤ length room
+      → flattenFont rules charstrings globals locals budget room ≡ leaving (accepted (length F)) (F ++ drop (length F) room))
+      → length out < length F → Why rules charstrings globals locals budget out 13 (needing (length F))
+
+abbrev pub RefusalDemand : Type 0
+RefusalDemand =
+    (rules : Rules) (charstrings globals locals : List ℕ) (budget : ℕ) (out : List ℕ) (k : ℕ) (v : Values) → Bytes charstrings
+    → flattenFont rules charstrings globals locals budget out .answer ≡ refused k v
+    → Why rules charstrings globals locals budget out k v × (flattenFont rules charstrings globals locals budget out .left ≡ out)

@@ -1,0 +1,134 @@
+-- Worked examples of a whole font (RULES, "A whole font"), plain, proved as one list by the definitions. Assumes nothing.
+use mathlib.Core.Path.{_≡_, refl}
+use mathlib.Core.List.{List, [], _∷_, _++_}
+use Prim.Native.Nat.{ℕ}
+use lib.ListN.{length, drop, replicate}
+use Rattle.number.specs.Answer.{Values, alone, atToken, needing, atEntry, because, atGlyph, Answer, accepted, refused, Outcome, leaving, into}
+use Rattle.number.specs.BigEndian.{beAt, bytesOf}
+use Rattle.number.specs.Signed.{signed, unsigned}
+use Rattle.number.specs.Number.{integerRows, rowsOf, rowOf, valueBy, numberBy, readBy}
+use Rattle.number.specs.Written.{formBy, spell, bytes, bytesBy, spelling}
+use Rattle.number.specs.Call.{bitLength, counts, callIndex, entryOf, biased, callee}
+use Rattle.index.specs.Index.{offset, byLast, bySize, byCount, extent, placeBy, placeIn, place, bytesBy as partBytes, part}
+use Rattle.index.specs.Formed.{unless, entriesFrom, formedBy, formation}
+use Rattle.index_writing.specs.Writing.{total, sizeFor, offsets, behindCount, indexBytes, indexOf}
+use Rattle.reading.specs.Rules.{byteKind, escapedKind, kindBy, plain}
+use Rattle.reading.specs.Lists.{countIn, entryBy, subrsOf, listsOf}
+use Rattle.reading.specs.Tokens.{escapedAt, operatorAt, cutBy, cut}
+use Rattle.reading.specs.Reading.{struck, tokensBy, endsInOperand, admitted, onNumber, onStem, onMask, onEnd, onEntry}
+use Rattle.reading.specs.Reading.{onIndex, onCall, onOperator, onCut, onToken, resume, after, tokensOf, read, reading}
+use Rattle.reading.specs.Flat.{spelled, flat}
+use Rattle.reading.specs.Answers.{readyBy}
+use Rattle.font.specs.Font.{flatIn, decided, allFrom, lengthsOf, joinedOf, indexed, ifFormed, fontBy, flatFont, flattenFont}
+
+-- what a row expects: an INDEX, or a refusal and what comes with it
+pub data Expected : Type 0 where
+  gives : List ℕ → Expected
+  refuses : ℕ → Values → Expected
+
+pub record Row : Type 0 where
+  pub charstrings : List ℕ
+  pub globals : List ℕ
+  pub locals : List ℕ
+  pub budget : ℕ
+  pub room : ℕ
+  pub expected : Expected
+
+-- the room is lent full of A5
+abbrev pub lent : Row → List ℕ
+lent r = replicate (r .room) 0xA5
+
+unfoldable pub expectedBy : List ℕ → Expected → Outcome (Answer ℕ)
+expectedBy out (gives b) = leaving (accepted (length b)) (b ++ drop (length b) out)
+expectedBy out (refuses n v) = leaving (refused n v) out
+
+abbrev pub Holds : Row → Type 0
+Holds r = flattenFont plain (r .charstrings) (r .globals) (r .locals) (r .budget) (lent r) ≡ expectedBy (lent r) (r .expected)
+
+abbrev pub All : List Row → Type 0
+All [] = Unit {0}
+All (r ∷ rs) = Holds r × All rs
+
+-- ---- the rows
+
+abbrev none : List ℕ
+none = 0x00 ∷ 0x00 ∷ []
+
+-- the list L of RULES, "Examples"
+abbrev L : List ℕ
+L = 0x00 ∷ 0x01 ∷ 0x01 ∷ 0x01 ∷ 0x05 ∷ 0x8C ∷ 0x8D ∷ 0x15 ∷ 0x0B ∷ []
+
+-- ample room
+abbrev row : List ℕ → List ℕ → ℕ → Expected → Row
+row charstrings locals budget e = record { charstrings = charstrings; globals = none; locals = locals; budget = budget; room = 12; expected = e }
+
+-- an endchar
+abbrev one : List ℕ
+one = 0x00 ∷ 0x01 ∷ 0x01 ∷ 0x01 ∷ 0x02 ∷ 0x0E ∷ []
+
+-- `20 0A 0E`, which calls the entry of L, and an empty string
+abbrev two : List ℕ
+two = 0x00 ∷ 0x02 ∷ 0x01 ∷ 0x01 ∷ 0x04 ∷ 0x04 ∷ 0x20 ∷ 0x0A ∷ 0x0E ∷ []
+
+abbrev flatTwo : List ℕ
+flatTwo = 0x00 ∷ 0x02 ∷ 0x01 ∷ 0x01 ∷ 0x05 ∷ 0x05 ∷ 0x8C ∷ 0x8D ∷ 0x15 ∷ 0x0E ∷ []
+
+-- an endchar, an operator that there is not, and an endchar; or a call without an index
+abbrev three : List ℕ
+three = 0x00 ∷ 0x03 ∷ 0x01 ∷ 0x01 ∷ 0x02 ∷ 0x03 ∷ 0x04 ∷ 0x0E ∷ 0x00 ∷ 0x0E ∷ []
+
+abbrev threeBad : List ℕ
+threeBad = 0x00 ∷ 0x03 ∷ 0x01 ∷ 0x01 ∷ 0x02 ∷ 0x03 ∷ 0x04 ∷ 0x0E ∷ 0x00 ∷ 0x0A ∷ []
+
+-- three glyphs of two tokens each
+abbrev short : List ℕ
+short = 0x00 ∷ 0x03 ∷ 0x01 ∷ 0x01 ∷ 0x03 ∷ 0x05 ∷ 0x07 ∷ 0x8B ∷ 0x0E ∷ 0x8B ∷ 0x0E ∷ 0x8B ∷ 0x0E ∷ []
+
+-- an INDEX of three entries, of which the second's offsets descend; the first is an operator that there is not
+abbrev descending : List ℕ
+descending = 0x00 ∷ 0x03 ∷ 0x01 ∷ 0x01 ∷ 0x03 ∷ 0x02 ∷ 0x03 ∷ 0x00 ∷ 0x00 ∷ []
+
+abbrev withLists : List ℕ → List ℕ → List ℕ → Expected → Row
+withLists charstrings globals locals e =
+    record { charstrings = charstrings; globals = globals; locals = locals; budget = 1000; room = 12; expected = e }
+
+abbrev pub rows : List Row
+rows =
+    -- no glyphs; one
+    row none none 0 (gives none)
+    ∷ row one none 1 (gives one)
+    -- a call followed, and an empty glyph; the result is itself; offsets wider than they need be
+    ∷ row two L 1000 (gives flatTwo)
+    ∷ row flatTwo none 1000 (gives flatTwo)
+    ∷ row (0x00 ∷ 0x01 ∷ 0x02 ∷ 0x00 ∷ 0x01 ∷ 0x00 ∷ 0x02 ∷ 0x0E ∷ []) none 1 (gives one)
+    -- bytes behind the INDEX are ignored
+    ∷ row (two ++ (0x00 ∷ 0x00 ∷ [])) L 1000 (gives flatTwo)
+    -- a glyph that is refused, with its number; of two the first decides
+    ∷ row three none 1000 (refuses 6 (atGlyph 1 (atToken 1)))
+    ∷ row threeBad none 1000 (refuses 6 (atGlyph 1 (atToken 1)))
+    -- each glyph has the whole budget
+    ∷ record { charstrings = short; globals = none; locals = none; budget = 2; room = 13; expected = gives short }
+    ∷ record { charstrings = short; globals = none; locals = none; budget = 1; room = 13; expected = refuses 3 (atGlyph 0 (atToken 1)) }
+    -- room for all of it but a byte
+    ∷ record { charstrings = two; globals = none; locals = L; budget = 1000; room = 9; expected = refuses 13 (needing 10) }
+    ∷ record { charstrings = two; globals = none; locals = L; budget = 1000; room = 10; expected = gives flatTwo }
+    -- 1 before 2, 2 before 26, 26 before a glyph's own; each with its reason
+    ∷ withLists descending [] descending (refuses 1 (because 20 alone))
+    ∷ withLists descending none (0x00 ∷ 0x01 ∷ 0x05 ∷ []) (refuses 2 (because 21 alone))
+    ∷ withLists descending none none (refuses 26 (because 41 (atEntry 1)))
+    ∷ withLists [] none none (refuses 26 (because 20 alone))
+    -- a glyph's own before 13
+    ∷ record { charstrings = three; globals = none; locals = none; budget = 1000; room = 0; expected = refuses 6 (atGlyph 1 (atToken 1)) }
+    ∷ []
+
+pub rows-hold : All rows
+unfolding expectedBy into readyBy flatIn decided allFrom lengthsOf joinedOf indexed ifFormed fontBy flatFont flattenFont
+    total sizeFor offsets behindCount indexBytes indexOf
+    beAt bytesOf signed unsigned integerRows rowsOf rowOf valueBy numberBy readBy formBy spell bytes bytesBy spelling
+    bitLength counts callIndex entryOf biased callee
+    offset byLast bySize byCount extent placeBy placeIn place partBytes part unless entriesFrom formedBy formation
+    byteKind escapedKind kindBy countIn entryBy subrsOf listsOf escapedAt operatorAt cutBy cut
+    struck tokensBy endsInOperand admitted onNumber onStem onMask onEnd onEntry onIndex onCall onOperator onCut onToken
+    resume after tokensOf read reading spelled flat
+rows-hold =
+    (refl, (refl, (refl, (refl, (refl, (refl, (refl, (refl, (refl, (refl, (refl, (refl, (refl, (refl, (refl, (refl, (refl, tt)))))))))))))))))

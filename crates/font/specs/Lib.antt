@@ -1,0 +1,12 @@
+pub mod Font
+pub mod Demands
+pub mod Code
+pub mod GlyphLaws
+pub mod FontLaws
+pub mod PassLaws
+pub mod WholeLaws
+pub mod EntryLaws
+pub mod StopLaws
+pub mod DemandLaws
+pub mod RefusalLaws
+pub mod Examples
