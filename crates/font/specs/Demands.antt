@@ -12,7 +12,7 @@ use Rattle.reading.specs.Tokens.{Bytes}
 use Rattle.reading.specs.Flat.{straight}
 use Rattle.reading.specs.Answers.{Flattening, flattening}
 use Rattle.reading.specs.Masks.{StemsFirst, ByNote}
-use Rattle.reading.specs.Demands.{empty, SameGlyph}
+use Rattle.reading.specs.Demands.{empty, SameGlyph, RunRefusal}
 use Rattle.font.specs.Font.{lengthsOf, flattenFont}
 
 -- ---- glyph by glyph
@@ -61,10 +61,6 @@ FontDemand =
 
 abbrev pub IsFormed : Rules → List ℕ → Type 0
 IsFormed rules s = (n : ℕ) × (formation (rules .width) s ≡ accepted n)
-
--- the refusals of a run
-abbrev pub RunRefusal : ℕ → Type 0
-RunRefusal k = (3 ≤ k) × (k ≤ 12)
 
 -- The refusals in turn, each with what comes with it; 22 and 24 are not among them.
 pub data Why (rules : Rules) (charstrings globals locals : List ℕ) (budget : ℕ) (out : List ℕ) : ℕ → Values → Type 0 where

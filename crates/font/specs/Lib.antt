@@ -6,7 +6,6 @@ pub mod FontLaws
 pub mod PassLaws
 pub mod WholeLaws
 pub mod EntryLaws
-pub mod StopLaws
 pub mod DemandLaws
 pub mod RefusalLaws
 pub mod Examples

@@ -8,7 +8,7 @@ use native.Mathlib.Omega.{arith}
 use lib.Dec.{leb, ltb, eqb}
 use lib.ListN.{length, getD, drop}
 use borrow.Author.Tests.{ltb-true, ltb-false, leb-true, leb-false, eqb-false}
-use Rattle.number.specs.Answer.{Values, alone, needing, atGlyph, Answer, accepted, refused, mapped, Outcome, leaving, sized, into}
+use Rattle.number.specs.Answer.{Values, alone, needing, atGlyph, Answer, accepted, refused, mapped, Outcome, leaving, Ready, sized, into}
 use Rattle.number.specs.AnswerLaws.{refused-accepted, into-fits}
 use Rattle.number.specs.BigEndianLaws.{be-lt}
 use Rattle.index.specs.Index.{part}
@@ -18,12 +18,25 @@ use Rattle.index_writing.specs.Writing.{total, indexBytes, indexOf}
 use Rattle.reading.specs.Rules.{Rules}
 use Rattle.reading.specs.Lists.{listsOf}
 use Rattle.reading.specs.Tokens.{Bytes}
-use Rattle.reading.specs.Reading.{original}
+use Rattle.reading.specs.Reading.{Ending, back, ended, stopped, Run, original}
+use Rattle.reading.specs.Answers.{Flattening, readyBy}
+use Rattle.reading.specs.Demands.{RunRefusal}
+use Rattle.reading.specs.StopLaws.{EndsSo, run-stops}
 use Rattle.font.specs.Font.{flatIn, decided, allFrom, lengthsOf, joinedOf, indexed, ifFormed, fontBy, flatFont, flattenFont}
 use Rattle.font.specs.Demands.{Why, bad-globals, bad-locals, bad-charstrings, bad-glyph, too-long, no-room, IsFormed, RefusalDemand}
-use Rattle.font.specs.StopLaws.{run-stops, flat-refused}
 use Rattle.font.specs.FontLaws.{joined-total}
 use Rattle.font.specs.EntryLaws.{Each, each, count-lengths, alone-gives, alone-refused}
+
+-- ---- a run's refusal
+
+flat-refused : (r : Run) → EndsSo (r .how) → (k : ℕ) (v : Values) → flatIn r ≡ refused k v → RunRefusal k
+unfolding flatIn readyBy
+flat-refused r so k v e = go-by (r .how) so e
+  where
+    go-by : (h : Ending) → EndsSo h → mapped (λ (x : Ready Flattening). x .bytes) (readyBy r h) ≡ refused k v → RunRefusal k
+    go-by back so e = refused-accepted (sym e)
+    go-by ended so e = refused-accepted (sym e)
+    go-by (stopped n) so e = let same : n ≡ k = cc in subst RunRefusal same so
 
 -- ---- the first glyph that is refused
 

@@ -3,7 +3,7 @@ use Prim.Native.Nat.{ℕ}
 use mathlib.Core.Bool.{Bool, true, false, not, cond}
 use lib.IntN.{ℤ}
 use lib.Dec.{eqb}
-use Rattle.number.specs.Answer.{Values, Answer, accepted, refused, lengthOr, tokensOr, entryOr, reasonOr, Outcome, leaving}
+use Rattle.number.specs.Answer.{Values, Answer, accepted, refused, lengthOr, tokensOr, entryOr, reasonOr, glyphOr, Outcome, leaving}
 use Rattle.number.specs.Number.{Number}
 use Rattle.number.specs.declared.Operand.{Operand}
 use Rattle.reading.specs.Answers.{Flattening}
@@ -105,3 +105,27 @@ flatPlacesOr old v =
 
 abbrev pub tellFlattening : Outcome (Answer Flattening) → FlatPlaces → Outcome (Told FlatPlaces)
 tellFlattening o old = leaving (tell flatPlaces flatPlacesOr (o .answer) old) (o .left)
+
+-- and those of a whole font
+pub record FontPlaces : Type 0 where
+  pub length : ℕ
+  pub glyph : ℕ
+  pub tokens : ℕ
+  pub entry : ℕ
+  pub reason : ℕ
+
+abbrev pub fontPlaces : FontPlaces → ℕ → FontPlaces
+fontPlaces old n = record { length = n; glyph = old .glyph; tokens = old .tokens; entry = old .entry; reason = old .reason }
+
+abbrev pub fontPlacesOr : FontPlaces → Values → FontPlaces
+fontPlacesOr old v =
+    record {
+      length = lengthOr (old .length) v;
+      glyph = glyphOr (old .glyph) v;
+      tokens = tokensOr (old .tokens) v;
+      entry = entryOr (old .entry) v;
+      reason = reasonOr (old .reason) v;
+    }
+
+abbrev pub tellFont : Outcome (Answer ℕ) → FontPlaces → Outcome (Told FontPlaces)
+tellFont o old = leaving (tell fontPlaces fontPlacesOr (o .answer) old) (o .left)

@@ -2,7 +2,9 @@
 use mathlib.Core.Path.{_≡_, sym, ap, _∙_}
 use Prim.Native.Nat.{ℕ}
 use mathlib.Core.List.{List}
-use Rattle.number.specs.Answer.{Values, Answer, accepted, refused, numberIn, Outcome, leaving}
+use Rattle.number.specs.Answer.{Values, Answer, accepted, refused, numberIn, entryOr, Outcome, leaving}
+use Rattle.index.specs.Formed.{reasonOf, reasonAt}
+use Rattle.index.specs.declared.list.Flaw.{Flaw}
 use Rattle.number.specs.AnswerLaws.{answer-as, left-as}
 use Rattle.ighzamrel.specs.Told.{Told, told, tell}
 
@@ -30,3 +32,8 @@ module _ {A P : Type 0} (set : P → A → P) (setBy : P → Values → P) where
 -- the number of a result that is known
 pub number-as : {E A : Type 0} (says : E → Answer A) {n : ℕ} {r w : E} → r ≡ w → n ≡ numberIn (says r) → n ≡ numberIn (says w)
 number-as says k e = e ∙ ap (λ x. numberIn (says x)) k
+
+-- what is told of a list's flaw: the entry i that comes with it, and its number k
+pub flaw-told : {P : Type 0} (n : ℕ) (left : List ℕ) (places : ℕ → ℕ → P) (old : ℕ) (f : Flaw) {i k : ℕ} → i ≡ entryOr old (reasonAt f) → k ≡ reasonOf f
+    → leaving (told n (places i k)) left ≡ leaving (told n (places (entryOr old (reasonAt f)) (reasonOf f))) left
+flaw-told n left places old f p q = rw (p, q)

@@ -3,10 +3,15 @@ use crate::flattening::profile_of;
 use crate::flattening::tell_flaw;
 use font::FontFlattened;
 use font::flatten_font;
+ghost use mathlib.Core.Path.{_≡_};
+ghost use Rattle.number.specs.Answer.{leaving};
+ghost use Rattle.reading.specs.Rules.{rulesOf};
+ghost use Rattle.font.specs.Font.{flattenFont};
+ghost use Rattle.ighzamrel.specs.Told.{profileOf, told, tellFont};
 
-// Flattens each glyph of a CharStrings INDEX with the two subroutine lists, and writes the INDEX of the flat strings to the start of out:
-// 0 and its length; 13 and the same; 3 to 12, the first refused glyph's number and its tokens; 1, 2 or 26 and the reason, as of
-// `ighzamrel_flatten`; or 23.
+// Flattens each glyph of a CharStrings INDEX with the two subroutine lists, and writes the INDEX of the flat strings to the start
+// of out: 0 and its length; 13 and the same; 3 to 12, the number of the first glyph that is refused, and its tokens; 1, 2 or 26
+// and the reason, as `ighzamrel_flatten` gives it; or 23.
 #[no_mangle]
 pub extern "C" fn ighzamrel_flatten_font<'a>(
     charstrings: &'a [u8],
@@ -20,7 +25,24 @@ pub extern "C" fn ighzamrel_flatten_font<'a>(
     tokens: &mut u32,
     entry: &mut u32,
     reason: &mut u32,
-) -> u32 {
+) -> u32
+    ensures { λ r. ⌜ leaving (told r (record {
+      length = now (length .exit);
+      glyph = now (glyph .exit);
+      tokens = now (tokens .exit);
+      entry = now («entry» .exit);
+      reason = now (reason .exit);
+    })) (now (out .exit))
+        ≡ tellFont
+        (flattenFont (rulesOf (profileOf profile)) (now (charstrings .entry)) (now (globals .entry)) (now (locals .entry)) budget (now (out .entry)))
+        (record {
+          length = now (length .entry);
+          glyph = now (glyph .entry);
+          tokens = now (tokens .entry);
+          entry = now («entry» .entry);
+          reason = now (reason .entry);
+        }) ⌝ }
+{
     let flattened = flatten_font(
         charstrings,
         globals,
@@ -32,18 +54,29 @@ pub extern "C" fn ighzamrel_flatten_font<'a>(
     match flattened {
         FontFlattened::Written(n) => {
             *length = n;
+            flattened.number()
         }
-        FontFlattened::BadGlobals(flaw) => tell_flaw(flaw, entry, reason),
-        FontFlattened::BadLocals(flaw) => tell_flaw(flaw, entry, reason),
-        FontFlattened::BadCharstrings(flaw) => tell_flaw(flaw, entry, reason),
+        FontFlattened::BadGlobals(flaw) => {
+            tell_flaw(flaw, entry, reason);
+            flattened.number()
+        }
+        FontFlattened::BadLocals(flaw) => {
+            tell_flaw(flaw, entry, reason);
+            flattened.number()
+        }
+        FontFlattened::BadCharstrings(flaw) => {
+            tell_flaw(flaw, entry, reason);
+            flattened.number()
+        }
         FontFlattened::Refused(number, _, count) => {
             *glyph = number;
             *tokens = count;
+            flattened.number()
         }
-        FontFlattened::TooLong => {}
+        FontFlattened::TooLong => flattened.number(),
         FontFlattened::NoRoom(n) => {
             *length = n;
+            flattened.number()
         }
     }
-    flattened.number()
 }

@@ -96,3 +96,9 @@ abbrev pub StrictThenPlain : Type 0
 StrictThenPlain =
     (cs globals locals : List ℕ) (budget : ℕ) (out : List ℕ) (x : Flattening) → flattening strict cs globals locals budget out .answer ≡ accepted x
     → flattening plain cs globals locals budget out ≡ flattening strict cs globals locals budget out
+
+-- ---- of every refused run
+
+-- its number: the refusals 3 to 12
+abbrev pub RunRefusal : ℕ → Type 0
+RunRefusal k = (3 ≤ k) × (k ≤ 12)

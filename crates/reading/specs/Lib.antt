@@ -11,6 +11,7 @@ pub mod Demands
 pub mod CutLaws
 pub mod StepLaws
 pub mod RunLaws
+pub mod StopLaws
 pub mod BudgetLaws
 pub mod TighterLaws
 pub mod ValidLaws

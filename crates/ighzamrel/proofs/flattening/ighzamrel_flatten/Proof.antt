@@ -1,14 +1,11 @@
 -- `ighzamrel_flatten` tells what `flatten` answers, and leaves what it leaves. Assumes nothing.
-use Rattle.ighzamrel.specs.Told.{FlatPlaces, flatPlacesOr, profileOf, told, tell}
-use Rattle.ighzamrel.specs.ToldLaws.{tell-left}
-use Rattle.number.specs.Answer.{Answer, because, entryOr, Outcome, leaving}
-use Rattle.index.specs.Formed.{reasonOf, reasonAt}
-use Rattle.index.specs.declared.list.Flaw.{Flaw}
+use Rattle.ighzamrel.specs.Told.{FlatPlaces, profileOf, tell}
+use Rattle.ighzamrel.specs.ToldLaws.{tell-left, flaw-told}
+use Rattle.number.specs.Answer.{Answer, tokensOr, entryOr, Outcome, leaving}
 use Rattle.reading.specs.Answers.{Flattening, flattened, flattening}
 use Rattle.reading.specs.Rules.{rulesOf}
 use Rattle.reading.specs.declared.Profile.{Profile}
 use mathlib.Core.Path.{_≡_, ap, _∙_}
-use mathlib.Core.List.{List}
 use Prim.Native.Nat.{ℕ}
 use borrow.Author.Needs.{needs}
 use Rattle.ighzamrel.proofs.flattening.ighzamrel_flatten.Statement.{statement}
@@ -31,12 +28,9 @@ abbrev before : tie.Start → FlatPlaces
 before c =
     let a = c .args in record { length = a .length .now; tokens = a .tokens .now; entry = a .entry .now; reason = a .reason .now }
 
--- what is told of a list's flaw: the entry i that comes with it, and its number k
-bad-list : (n : ℕ) (left : List ℕ) (old : FlatPlaces) (f : Flaw) {i k : ℕ} → i ≡ entryOr (old .entry) (reasonAt f) → k ≡ reasonOf f
-    → leaving (told n (record { length = old .length; tokens = old .tokens; entry = i; reason = k })) left
-    ≡ leaving (told n (flatPlacesOr old (because (reasonOf f) (reasonAt f)))) left
-unfolding entryOr
-bad-list n left old f p q = rw (p, q)
+-- and with an entry and a reason
+abbrev with : tie.Start → ℕ → ℕ → FlatPlaces
+with c i k = let a = c .args in record { length = a .length .now; tokens = a .tokens .now; entry = i; reason = k }
 
 profile-of-requires : tie.Need-profile-of-requires
 profile-of-requires c κs = search needs
@@ -92,33 +86,33 @@ same-length-2 : tie.Need-same-length-2
 same-length-2 c = search needs
 
 returns-2 : tie.Need-returns-2
-unfolding tell
+unfolding tell tokensOr entryOr
 returns-2 c =
     let at-tell = c .before in
     let at-flattened = at-tell .before .before .before .before in
     let at-flatten = at-flattened .before .before .before .before in
     let flaw = at-flattened .flattened2 .given .0 .0 in
-    bad-list _ _ (before (start at-flatten)) flaw (at-tell .tell-flaw .ensures .0) (at-tell .tell-flaw .ensures .1)
+    flaw-told _ _ (with (start at-flatten)) (before (start at-flatten) .entry) flaw (at-tell .tell-flaw .ensures .0) (at-tell .tell-flaw .ensures .1)
     ∙ tell-left _ _ flattened _ (at-flattened .flattened2 .given .1) _ (c .number2 .ensures) (asked at-flatten)
 
 same-length-3 : tie.Need-same-length-3
 same-length-3 c = search needs
 
 returns-3 : tie.Need-returns-3
-unfolding tell
+unfolding tell tokensOr entryOr
 returns-3 c =
     let at-tell = c .before in
     let at-flattened = at-tell .before .before .before .before in
     let at-flatten = at-flattened .before .before .before .before in
     let flaw = at-flattened .flattened3 .given .0 .0 in
-    bad-list _ _ (before (start at-flatten)) flaw (at-tell .tell-flaw2 .ensures .0) (at-tell .tell-flaw2 .ensures .1)
+    flaw-told _ _ (with (start at-flatten)) (before (start at-flatten) .entry) flaw (at-tell .tell-flaw2 .ensures .0) (at-tell .tell-flaw2 .ensures .1)
     ∙ tell-left _ _ flattened _ (at-flattened .flattened3 .given .1) _ (c .number3 .ensures) (asked at-flatten)
 
 same-length-4 : tie.Need-same-length-4
 same-length-4 c = search needs
 
 returns-4 : tie.Need-returns-4
-unfolding tell entryOr
+unfolding tell tokensOr entryOr
 returns-4 c =
     tell-left _ _ flattened _ (c .before .before .flattened4 .given .1) _ (c .number4 .ensures)
     (asked (c .before .before .before .before .before .before))
@@ -127,7 +121,7 @@ same-length-5 : tie.Need-same-length-5
 same-length-5 c = search needs
 
 returns-5 : tie.Need-returns-5
-unfolding tell entryOr
+unfolding tell tokensOr entryOr
 returns-5 c =
     tell-left _ _ flattened _ (c .before .before .flattened5 .given .1) _ (c .number5 .ensures)
     (asked (c .before .before .before .before .before .before))

@@ -1,5 +1,5 @@
 -- That a run is refused with 3 to 12 only. Assumes nothing.
-use mathlib.Core.Path.{_≡_, refl, sym, subst}
+use mathlib.Core.Path.{_≡_, refl}
 use mathlib.Core.Bool.{Bool, true, false, cond}
 use mathlib.Core.List.{List, [], _∷_}
 use Prim.Native.Nat.{ℕ}
@@ -7,28 +7,25 @@ use native.Mathlib.Omega.{arith}
 use mathlib.Core.Logic.{_⊎_, inl, inr}
 use lib.Dec.{leb, ltb, eqb, lit≤}
 use lib.ListN.{length}
-use Rattle.number.specs.Answer.{Values, Answer, accepted, refused, alone, mapped, Ready}
-use Rattle.number.specs.AnswerLaws.{refused-accepted}
+use Rattle.number.specs.Answer.{Answer, accepted, refused, alone}
 use Rattle.number.specs.Call.{callee}
 use Rattle.number.specs.CallLaws.{callee-refusal}
 use Rattle.number.specs.declared.Operand.{Operand}
 use Rattle.reading.specs.Rules.{Rules}
 use Rattle.reading.specs.Lists.{Lists, Entry, present, absent, listed}
 use Rattle.reading.specs.Tokens.{number, operator, Cut, token, lacking, cut}
 use Rattle.reading.specs.Items.{counted, atMask}
-use Rattle.reading.specs.Reading.{Entering, struck, State, Ending, back, ended, stopped, Run, Step, halt, go, enter, endsInOperand}
+use Rattle.reading.specs.Reading.{Entering, struck, State, Ending, back, ended, stopped, Step, halt, go, enter, endsInOperand}
 use Rattle.reading.specs.Reading.{admitted, onNumber, onStem, onMask, onEnd, onEntry, onIndex, onCall, onOperator, onCut, onToken, reading}
-use Rattle.reading.specs.Answers.{Flattening, readyBy}
 use Rattle.reading.specs.StepLaws.{Begun, declines, goes, pushes, stems, clears, masks, enters, returns, ends, Stepped, spent, begun, token-is}
 use Rattle.reading.specs.RunLaws.{Led, Kept, kept}
 use Rattle.reading.specs.declared.Operator.{Operator}
 use Rattle.reading.specs.declared.Which.{Which}
 use Rattle.reading.specs.declared.Kind.{Kind}
 use Rattle.reading.specs.declared.Kind.the-variants.{Stem, Clear, Mask, Call, Return, End, Unknown}
-use Rattle.font.specs.Font.{flatIn}
-use Rattle.font.specs.Demands.{RunRefusal}
+use Rattle.reading.specs.Demands.{RunRefusal}
 
-abbrev EndsSo : Ending → Type 0
+abbrev pub EndsSo : Ending → Type 0
 EndsSo back = Unit {0}
 EndsSo ended = Unit {0}
 EndsSo (stopped n) = RunRefusal n
@@ -142,14 +139,3 @@ module _ (rules : Rules) (lists : Lists) (budget : ℕ) where
 
   pub run-stops : (cs : List ℕ) → EndsSo (reading rules lists budget cs .how)
   run-stops cs = kept rules lists budget _ _ _ so-kept cs tt tt
-
--- ---- its refusal
-
-pub flat-refused : (r : Run) → EndsSo (r .how) → (k : ℕ) (v : Values) → flatIn r ≡ refused k v → RunRefusal k
-unfolding flatIn readyBy
-flat-refused r so k v e = go-by (r .how) so e
-  where
-    go-by : (h : Ending) → EndsSo h → mapped (λ (x : Ready Flattening). x .bytes) (readyBy r h) ≡ refused k v → RunRefusal k
-    go-by back so e = refused-accepted (sym e)
-    go-by ended so e = refused-accepted (sym e)
-    go-by (stopped n) so e = let same : n ≡ k = cc in subst RunRefusal same so
