@@ -1,21 +1,27 @@
--- Each public function's contract fixes its result and what it leaves: any two that it allows for the same arguments are one. Stated over the
--- contracts' own readings. Assumes nothing.
+-- Each public function's contract fixes its result and what it leaves: any two that it allows for the same arguments are one; of `draft`, the flat
+-- string. Stated over the contracts' own readings. Assumes nothing.
 use mathlib.Core.Path.{_≡_, refl, sym, ap, _∙_}
 use mathlib.Core.Bool.{cond}
-use Prim.Native.Nat.{ℕ}
+use Prim.Native.Nat.{ℕ, _<_}
 use lib.Dec.{eqb}
+use lib.ListN.{length, getD}
 use borrow.Fn.Kinds.{Dens, resT, endedOf}
 use contract.Lifetimes.{Lfts}
 use denote.Triple.Clauses.{AtExit}
 use Rattle.number.specs.Answer.{Answer, accepted, refused, lengthOr, tokensOr, entryOr, reasonOr}
 use Rattle.number.specs.AnswerLaws.{answer-as, left-as}
 use Rattle.index.proofs.Once.{flaw-of, flaw-undo}
-use Rattle.reading.specs.Answers.{Flattening, numberOf, flattened}
+use Rattle.reading.specs.Rules.{rulesOf}
+use Rattle.reading.specs.Reading.{original}
+use Rattle.reading.specs.Answers.{Flattening, flatOf, numberOf, flattened}
 use Rattle.reading.specs.declared.Refusal.{Refusal}
 use Rattle.reading.specs.declared.Refusal.the-variants.{BudgetSpent, BytesLacking, TooManyOperands, UnknownOperator, NoIndex}
 use Rattle.reading.specs.declared.Refusal.the-variants.{IndexNotLast, NoEntry, TooDeep, TooManyHints, Composite}
 use Rattle.reading.specs.declared.Flattened.{Flattened}
 use Rattle.reading.specs.declared.Flattened.the-variants.{Accepted, BadGlobals, BadLocals, Refused, NoRoom}
+use Rattle.charstring.specs.Run.{Begins}
+use Rattle.charstring.proofs.flattening.draft.Kinds as draft-kinds
+use Rattle.charstring.proofs.flattening.draft.Reads as draft-reads
 use Rattle.charstring.proofs.flattening.flatten.Kinds as flatten-kinds
 use Rattle.charstring.proofs.flattening.flatten.Reads as flatten-reads
 use Rattle.charstring.proofs.flattening.write.Kinds as write-kinds
@@ -25,12 +31,12 @@ use Rattle.charstring.proofs.flattening.measure.Reads as measure-reads
 
 -- ---- the ways back, from what an answer says to the answer
 
-refusal-of : ℕ → Refusal
+pub refusal-of : ℕ → Refusal
 refusal-of k =
     cond (eqb k 3) BudgetSpent (cond (eqb k 4) BytesLacking (cond (eqb k 5) TooManyOperands (cond (eqb k 6) UnknownOperator (cond (eqb k 7) NoIndex
     (cond (eqb k 8) IndexNotLast (cond (eqb k 9) NoEntry (cond (eqb k 10) TooDeep (cond (eqb k 11) TooManyHints Composite))))))))
 
-refusal-undo : (k : Refusal) → refusal-of (numberOf k) ≡ k
+pub refusal-undo : (k : Refusal) → refusal-of (numberOf k) ≡ k
 unfolding refusal-of
 refusal-undo BudgetSpent = refl
 refusal-undo BytesLacking = refl
@@ -89,3 +95,13 @@ write-once κs a r r′ x x′ p p′ = let e = p ∙ sym p′ in (told-once r r
 pub measure-once : (κs : Lfts 1) (a : Dens κs measure-kinds.ps) (r r′ : resT measure-kinds.r κs .Denot)
     (x x′ : AtExit (endedOf 1 measure-kinds.ps measure-kinds.r) κs) → measure-reads.Post κs a r x → measure-reads.Post κs a r′ x′ → r ≡ r′
 measure-once κs a r r′ x x′ p p′ = told-once r r′ (p ∙ sym p′)
+
+-- `draft` lends back the flat string as far as the room goes, and behind it what a run happens to leave (docs/LOOSE.md)
+pub draft-once : (κs : Lfts 2) (a : Dens κs draft-kinds.ps) (r r′ : resT draft-kinds.r κs .Denot)
+    (x x′ : AtExit (endedOf 2 draft-kinds.ps draft-kinds.r) κs) → draft-reads.Post κs a r x → draft-reads.Post κs a r′ x′
+    → (r ≡ r′)
+    × ((k : ℕ) → k < length (flatOf (original (rulesOf (a .1 .1 .1 .0)) (a .0 .now) (a .1 .0 .now) (a .1 .1 .0 .now) (a .1 .1 .1 .1 .0)))
+    → k < length (x .1 .1 .1 .1 .1 .0 .now) → k < length (x′ .1 .1 .1 .1 .1 .0 .now)
+    → getD (x .1 .1 .1 .1 .1 .0 .now) k 0 ≡ getD (x′ .1 .1 .1 .1 .1 .0 .now) k 0)
+unfolding Begins
+draft-once κs a r r′ x x′ p p′ = (told-once r r′ (p .0 ∙ sym (p′ .0)), λ k f l l′. p .1 k l f ∙ sym (p′ .1 k l′ f))

@@ -27,7 +27,7 @@ use Rattle.ighzamrel.proofs.flattening.ighzamrel_flatten.Reads as reads
 -- profile, the budget, out, length, tokens, entry, and `.1 .1 .1 .1 .1 .1 .1 .1 .1 .0` is reason.
 
 -- the list `00 00`, in either profile
-no-entries : (p : Profile) → 0 ∷ 0 ∷ [] ≡ empty (rulesOf p)
+pub no-entries : (p : Profile) → 0 ∷ 0 ∷ [] ≡ empty (rulesOf p)
 no-entries Plain = refl
 no-entries Strict = refl
 

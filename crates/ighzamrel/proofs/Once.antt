@@ -6,7 +6,7 @@ use contract.Lifetimes.{Lfts}
 use denote.Triple.Clauses.{AtExit}
 use Rattle.number.specs.Answer.{Outcome}
 use Rattle.index.specs.Index.{Extent, Place}
-use Rattle.ighzamrel.specs.Told.{Told, NumberPlaces, IntegerPlaces, ListPlaces, FlatPlaces}
+use Rattle.ighzamrel.specs.Told.{Told, NumberPlaces, IntegerPlaces, ListPlaces, FlatPlaces, FontPlaces}
 use Rattle.ighzamrel.proofs.numbers.ighzamrel_read_charstring_number.Kinds as charstring-kinds
 use Rattle.ighzamrel.proofs.numbers.ighzamrel_read_charstring_number.Reads as charstring-reads
 use Rattle.ighzamrel.proofs.numbers.ighzamrel_read_dict_integer.Kinds as dict-kinds
@@ -27,6 +27,8 @@ use Rattle.ighzamrel.proofs.indexes.ighzamrel_write_index.Kinds as writ
 use Rattle.ighzamrel.proofs.indexes.ighzamrel_write_index.Reads as write-reads
 use Rattle.ighzamrel.proofs.flattening.ighzamrel_flatten.Kinds as flatten-kinds
 use Rattle.ighzamrel.proofs.flattening.ighzamrel_flatten.Reads as flatten-reads
+use Rattle.ighzamrel.proofs.fonts.ighzamrel_flatten_font.Kinds as font-kinds
+use Rattle.ighzamrel.proofs.fonts.ighzamrel_flatten_font.Reads as font-reads
 
 -- Of x, what each parameter is at the end in their order: `x .0` is the first, `x .1 .0` the second, `x .1 .1 .0` the third, and so on.
 
@@ -119,4 +121,22 @@ flatten-once κs a r r′ x x′ p p′ =
       ap (λ (y : FlatPlaces). y .tokens) (w .2),
       ap (λ (y : FlatPlaces). y .entry) (w .2),
       ap (λ (y : FlatPlaces). y .reason) (w .2),
+    )
+
+pub flatten-font-once : (κs : Lfts 7) (a : Dens κs font-kinds.ps) (r r′ : resT font-kinds.r κs .Denot)
+    (x x′ : AtExit (endedOf 7 font-kinds.ps font-kinds.r) κs)
+    → font-reads.Post κs a r x → font-reads.Post κs a r′ x′
+    → (r ≡ r′) × (x .1 .1 .1 .1 .1 .0 .now ≡ x′ .1 .1 .1 .1 .1 .0 .now) × (x .1 .1 .1 .1 .1 .1 .0 .now ≡ x′ .1 .1 .1 .1 .1 .1 .0 .now)
+    × (x .1 .1 .1 .1 .1 .1 .1 .0 .now ≡ x′ .1 .1 .1 .1 .1 .1 .1 .0 .now) × (x .1 .1 .1 .1 .1 .1 .1 .1 .0 .now ≡ x′ .1 .1 .1 .1 .1 .1 .1 .1 .0 .now)
+    × (x .1 .1 .1 .1 .1 .1 .1 .1 .1 .0 .now ≡ x′ .1 .1 .1 .1 .1 .1 .1 .1 .1 .0 .now)
+    × (x .1 .1 .1 .1 .1 .1 .1 .1 .1 .1 .0 .now ≡ x′ .1 .1 .1 .1 .1 .1 .1 .1 .1 .1 .0 .now)
+flatten-font-once κs a r r′ x x′ p p′ =
+    let w = written-once (p ∙ sym p′) in (
+      w .0,
+      w .1,
+      ap (λ (y : FontPlaces). y .length) (w .2),
+      ap (λ (y : FontPlaces). y .glyph) (w .2),
+      ap (λ (y : FontPlaces). y .tokens) (w .2),
+      ap (λ (y : FontPlaces). y .entry) (w .2),
+      ap (λ (y : FontPlaces). y .reason) (w .2),
     )
