@@ -17,8 +17,9 @@
  * There is no state, nothing is allocated, and nothing is called but memcpy and memset; so any threads may
  * call at once, each with its own `out` and places. ighzamrel_flatten goes one call deeper for each call of
  * the charstring: at 64 strings deep, the most in plain, it used less than 44 KiB of stack, at 11, the most
- * in strict, less than 11 KiB, and each other function less than 200 bytes (x86-64; docs/BENCHMARKS.md says
- * how that was measured).
+ * in strict, less than 11 KiB. ighzamrel_flatten_font keeps what it can of a font in 64 KiB of stack besides: it
+ * used less than 112 KiB in plain, less than 80 KiB in strict. Each other function used less than 200 bytes
+ * (x86-64; docs/BENCHMARKS.md says how that was measured).
  *
  * Each function stands in a section of its own, so a program that is linked with --gc-sections has what it calls
  * and no more.
@@ -56,6 +57,7 @@ enum ighzamrel_answer {
     IGHZAMREL_TOO_LONG = 23,          /* an INDEX to be written has a last offset over 4294967295 */
     IGHZAMREL_LENGTHS_MISMATCH = 24,  /* the lengths of an INDEX to be written do not add up to its data */
     IGHZAMREL_PAST_COUNT = 25,        /* the INDEX has no entry of that number */
+    IGHZAMREL_BAD_CHARSTRINGS = 26,   /* the CharStrings INDEX is not well formed */
     IGHZAMREL_ZERO_OFFSET = 40,       /* an offset of the entry, or the INDEX's last, is 0 */
     IGHZAMREL_DESCENDING = 41,        /* the offsets of the entry descend */
     IGHZAMREL_PAST_DATA = 42          /* the offsets of the entry pass the data */
@@ -166,6 +168,46 @@ static inline uint32_t ighzamrel_flatten_into(const uint8_t *charstring, size_t 
     result->answer = ighzamrel_flatten(charstring, charstring_len, globals, globals_len, locals, locals_len, profile,
                                        budget, out, out_len, &result->length, &result->tokens, &result->entry,
                                        &result->reason);
+    return result->answer;
+}
+
+/*
+ * Writes the INDEX of the flat strings of all glyphs of a font, in their order, to the start of out, as
+ * ighzamrel_write_index would. `charstrings` is the CharStrings INDEX. Each glyph of it is flattened as
+ * ighzamrel_flatten would do it with enough room, under the whole budget. The answer is the first of these that holds.
+ * 1, 2, 26, where `globals`, `locals`, `charstrings` is not well formed: *reason and *entry, as ighzamrel_flatten at 1
+ * and 2. 3 to 12, of the first glyph that is refused: *glyph, its number, counted from 0, and its *tokens. 23, of the
+ * INDEX to be written: no place. 13: *length, how many bytes that needs. 0: *length, how many it has.
+ */
+uint32_t ighzamrel_flatten_font(const uint8_t *charstrings, size_t charstrings_len, const uint8_t *globals,
+                                size_t globals_len, const uint8_t *locals, size_t locals_len, uint32_t profile,
+                                uint32_t budget, uint8_t *out, size_t out_len, size_t *length, uint32_t *glyph,
+                                uint32_t *tokens, uint32_t *entry, uint32_t *reason);
+
+/* What ighzamrel_flatten_font answers and sets. A later version may have more, behind these. */
+typedef struct ighzamrel_font_flattening {
+    uint32_t answer;
+    size_t length;
+    uint32_t glyph;
+    uint32_t tokens;
+    uint32_t entry;
+    uint32_t reason;
+} ighzamrel_font_flattening;
+
+/* Calls ighzamrel_flatten_font with the places of *result, and gives its answer; what that does not set is 0. */
+static inline uint32_t ighzamrel_flatten_font_into(const uint8_t *charstrings, size_t charstrings_len,
+                                                   const uint8_t *globals, size_t globals_len, const uint8_t *locals,
+                                                   size_t locals_len, uint32_t profile, uint32_t budget, uint8_t *out,
+                                                   size_t out_len, ighzamrel_font_flattening *result)
+{
+    result->length = 0;
+    result->glyph = 0;
+    result->tokens = 0;
+    result->entry = 0;
+    result->reason = 0;
+    result->answer = ighzamrel_flatten_font(charstrings, charstrings_len, globals, globals_len, locals, locals_len,
+                                            profile, budget, out, out_len, &result->length, &result->glyph,
+                                            &result->tokens, &result->entry, &result->reason);
     return result->answer;
 }
 
