@@ -1,5 +1,6 @@
 /*
- * One charstring made flat, the same charstring refused, and a list of subroutines that is damaged.
+ * One charstring made flat, the same charstring refused, and a list of subroutines that is damaged; then the glyphs of
+ * a whole font.
  *
  *     cc example.c $(pkg-config --cflags --libs ighzamrel)
  */
@@ -18,7 +19,8 @@ static const char *in_words(uint32_t answer)
     case IGHZAMREL_BAD_LOCALS: return "the font's list of local subroutines is damaged";
     case IGHZAMREL_BUDGET_SPENT: return "the glyph takes more tokens than it may";
     case IGHZAMREL_NO_ENTRY: return "the glyph calls a subroutine that the font does not have";
-    case IGHZAMREL_SHORT: return "the flat string is longer than the room for it";
+    case IGHZAMREL_SHORT: return "the result is longer than the room for it";
+    case IGHZAMREL_BAD_CHARSTRINGS: return "the font's list of glyphs is damaged";
     default: return "the glyph's charstring is damaged or not supported";
     }
 }
@@ -46,21 +48,56 @@ static void explain(const ighzamrel_flattening *flat)
     explain_list(flat->reason, flat->entry);
 }
 
+/* a font without such subroutines */
+static const uint8_t no_list[] = {0x00, 0x00};
+
+static void show_bytes(const uint8_t *bytes, size_t n)
+{
+    size_t i;
+    for (i = 0; i < n; i++)
+        printf(" %02X", (unsigned)bytes[i]);
+    printf("\n");
+}
+
 static void show(const uint8_t *charstring, size_t charstring_len, const uint8_t *locals, size_t locals_len)
 {
-    static const uint8_t no_list[] = {0x00, 0x00}; /* a font without global subroutines */
     uint8_t out[ROOM];
     ighzamrel_flattening flat;
-    size_t i;
     if (ighzamrel_flatten_into(charstring, charstring_len, no_list, sizeof no_list, locals, locals_len,
                                IGHZAMREL_PLAIN, BUDGET, out, sizeof out, &flat) != IGHZAMREL_ACCEPTED) {
         explain(&flat);
         return;
     }
     printf("flat, %u bytes in %u tokens:", (unsigned)flat.length, (unsigned)flat.tokens);
-    for (i = 0; i < flat.length; i++)
-        printf(" %02X", (unsigned)out[i]);
-    printf("\n");
+    show_bytes(out, flat.length);
+}
+
+/* 1, 2 and 26 come with a reason, 3 to 12 with the first glyph that is refused. */
+static void explain_font(const ighzamrel_font_flattening *flat)
+{
+    printf("the font is refused with %u", (unsigned)flat->answer);
+    if (flat->answer >= IGHZAMREL_BUDGET_SPENT && flat->answer <= IGHZAMREL_COMPOSITE)
+        printf(" at glyph %u", (unsigned)flat->glyph);
+    printf(": %s", in_words(flat->answer));
+    if (flat->reason == 0) {
+        printf("\n");
+        return;
+    }
+    printf(": ");
+    explain_list(flat->reason, flat->entry);
+}
+
+static void show_font(const uint8_t *charstrings, size_t charstrings_len, const uint8_t *locals, size_t locals_len)
+{
+    uint8_t out[ROOM];
+    ighzamrel_font_flattening flat;
+    if (ighzamrel_flatten_font_into(charstrings, charstrings_len, no_list, sizeof no_list, locals, locals_len,
+                                    IGHZAMREL_PLAIN, BUDGET, out, sizeof out, &flat) != IGHZAMREL_ACCEPTED) {
+        explain_font(&flat);
+        return;
+    }
+    printf("the INDEX of all flat strings, %u bytes:", (unsigned)flat.length);
+    show_bytes(out, flat.length);
 }
 
 /* A list by itself, as a font editor would look at it. */
@@ -81,13 +118,17 @@ int main(void)
     /* -107 callsubr endchar: with the bias 107, a call of entry 0 of the local list, which is 1 2 rmoveto return */
     static const uint8_t charstring[] = {0x20, 0x0A, 0x0E};
     static const uint8_t locals[] = {0x00, 0x01, 0x01, 0x01, 0x05, 0x8C, 0x8D, 0x15, 0x0B};
-    static const uint8_t no_locals[] = {0x00, 0x00};
     /* three entries by the offsets 1, 2, 1 and 2: entry 1 would end before it starts */
     static const uint8_t damaged[] = {0x00, 0x03, 0x01, 0x01, 0x02, 0x01, 0x02, 0x0B};
+    /* the CharStrings INDEX of a font with three glyphs: endchar, that charstring, and endchar */
+    static const uint8_t glyphs[] = {0x00, 0x03, 0x01, 0x01, 0x02, 0x05, 0x06, 0x0E, 0x20, 0x0A, 0x0E, 0x0E};
     show(charstring, sizeof charstring, locals, sizeof locals);
-    show(charstring, sizeof charstring, no_locals, sizeof no_locals);
+    show(charstring, sizeof charstring, no_list, sizeof no_list);
     show(charstring, sizeof charstring, damaged, sizeof damaged);
     check(locals, sizeof locals);
     check(damaged, sizeof damaged);
+    show_font(glyphs, sizeof glyphs, locals, sizeof locals);
+    show_font(glyphs, sizeof glyphs, no_list, sizeof no_list);
+    show_font(damaged, sizeof damaged, locals, sizeof locals);
     return 0;
 }

@@ -26,13 +26,13 @@ enum { UNTOUCHED = 77, BLANK = 0xA5, ROOM = 32 };
 
 static uint8_t out[ROOM];
 static size_t length;
-static uint32_t tokens, entry, reason;
+static uint32_t glyph, tokens, entry, reason;
 
 static void clear(void)
 {
     memset(out, BLANK, sizeof out);
     length = UNTOUCHED;
-    tokens = entry = reason = UNTOUCHED;
+    glyph = tokens = entry = reason = UNTOUCHED;
 }
 
 /* Whether out starts with these bytes, and is blank behind them. */
@@ -260,6 +260,93 @@ static void flattening(void)
     }
 }
 
+/* The three INDEXes of a font: CharStrings, globals and locals. */
+struct font {
+    const uint8_t *charstrings;
+    size_t charstrings_len;
+    const uint8_t *globals;
+    size_t globals_len;
+    const uint8_t *locals;
+    size_t locals_len;
+};
+
+/* Flattens a font, as `flattened` does a charstring. */
+static void font_flattened(const struct font *font, const uint32_t limits[3], const ighzamrel_font_flattening *must,
+                           const uint8_t *flat)
+{
+    ighzamrel_font_flattening result;
+    clear();
+    EXPECT(ighzamrel_flatten_font(font->charstrings, font->charstrings_len, font->globals, font->globals_len, font->locals,
+                                  font->locals_len, limits[0], limits[1], out, limits[2], &length, &glyph, &tokens, &entry,
+                                  &reason) == must->answer);
+    EXPECT(length == must->length && glyph == must->glyph && tokens == must->tokens);
+    EXPECT(entry == must->entry && reason == must->reason);
+    EXPECT(flat == NULL ? blank() : holds(flat, length));
+    clear();
+    memset(&result, BLANK, sizeof result);
+    EXPECT(ighzamrel_flatten_font_into(font->charstrings, font->charstrings_len, font->globals, font->globals_len, font->locals,
+                                       font->locals_len, limits[0], limits[1], out, limits[2], &result) == must->answer);
+    EXPECT(result.answer == must->answer && result.length == given(must->length) && result.glyph == given(must->glyph));
+    EXPECT(result.tokens == given(must->tokens) && result.entry == given(must->entry) && result.reason == given(must->reason));
+    EXPECT(flat == NULL ? blank() : holds(flat, result.length));
+}
+
+/* A font with L as its local list, with what it must answer. */
+struct font_row {
+    const uint8_t *charstrings;
+    size_t charstrings_len;
+    uint32_t limits[3];
+    uint32_t answer;
+    size_t length;
+    uint32_t glyph;
+    uint32_t tokens;
+    const uint8_t *flat;
+};
+
+static void fonts(void)
+{
+    /* three glyphs: -107 callsubr endchar, no bytes, and 5 endchar with the 5 in three bytes */
+    static const uint8_t three[] = {0x00, 0x03, 0x01, 0x01, 0x04, 0x04, 0x08, 0x20, 0x0A, 0x0E, 0x1C, 0x00, 0x05, 0x0E};
+    static const uint8_t three_flat[] = {0x00, 0x03, 0x01, 0x01, 0x05, 0x05, 0x07, 0x8C, 0x8D, 0x15, 0x0E, 0x90, 0x0E};
+    /* endchar, -106 callsubr, and a byte that is no operator: the second is the first that is refused */
+    static const uint8_t refused[] = {0x00, 0x03, 0x01, 0x01, 0x02, 0x04, 0x05, 0x0E, 0x21, 0x0A, 0x00};
+    const struct font_row rows[] = {
+        {three, sizeof three, {0, 1000, ROOM}, 0, 13, UNTOUCHED, UNTOUCHED, three_flat},
+        {three, sizeof three, {1, 7, 13}, 0, 13, UNTOUCHED, UNTOUCHED, three_flat},
+        {three, sizeof three, {0, 7, 12}, 13, 13, UNTOUCHED, UNTOUCHED, NULL},
+        {three, sizeof three, {0, 7, 0}, 13, 13, UNTOUCHED, UNTOUCHED, NULL},
+        {three, sizeof three, {0, 6, ROOM}, 3, UNTOUCHED, 0, 6, NULL},
+        {refused, sizeof refused, {0, 1000, ROOM}, 9, UNTOUCHED, 1, 2, NULL},
+        {refused, sizeof refused, {0, 1000, 0}, 9, UNTOUCHED, 1, 2, NULL},
+        {refused, sizeof refused, {0, 1, ROOM}, 3, UNTOUCHED, 1, 1, NULL},
+        {EMPTY, sizeof EMPTY, {0, 0, ROOM}, 0, 2, UNTOUCHED, UNTOUCHED, EMPTY},
+        {EMPTY, sizeof EMPTY, {0, 0, 2}, 0, 2, UNTOUCHED, UNTOUCHED, EMPTY},
+        {EMPTY, sizeof EMPTY, {0, 0, 1}, 13, 2, UNTOUCHED, UNTOUCHED, NULL},
+    };
+    size_t i;
+    for (i = 0; i < sizeof rows / sizeof rows[0]; i++) {
+        const struct font_row *r = &rows[i];
+        const struct font font = {r->charstrings, r->charstrings_len, EMPTY, sizeof EMPTY, L, sizeof L};
+        const ighzamrel_font_flattening must = {r->answer, r->length, r->glyph, r->tokens, UNTOUCHED, UNTOUCHED};
+        font_flattened(&font, r->limits, &must, r->flat);
+    }
+}
+
+/* A font with one bad list: the lists are looked at before any glyph, the CharStrings INDEX last of the three. */
+static void bad_font(const uint8_t *list, size_t n, uint32_t why, uint32_t bad)
+{
+    static const uint32_t limits[] = {IGHZAMREL_PLAIN, 0, ROOM};
+    const struct font globals = {list, n, list, n, list, n};
+    const struct font locals = {list, n, L, sizeof L, list, n};
+    const struct font charstrings = {list, n, L, sizeof L, EMPTY, sizeof EMPTY};
+    ighzamrel_font_flattening must = {IGHZAMREL_BAD_GLOBALS, UNTOUCHED, UNTOUCHED, UNTOUCHED, bad, why};
+    font_flattened(&globals, limits, &must, NULL);
+    must.answer = IGHZAMREL_BAD_LOCALS;
+    font_flattened(&locals, limits, &must, NULL);
+    must.answer = IGHZAMREL_BAD_CHARSTRINGS;
+    font_flattened(&charstrings, limits, &must, NULL);
+}
+
 /* A list that is not well formed: the reason, and the entry that comes with it. The global list is looked at before the local one. */
 static void bad_list(const uint8_t *list, size_t n, uint32_t why, uint32_t bad)
 {
@@ -270,6 +357,7 @@ static void bad_list(const uint8_t *list, size_t n, uint32_t why, uint32_t bad)
     list_checked(list, n, why, UNTOUCHED, bad);
     flattened(charstring, 1, list, n, EMPTY, 1, limits, &globals, NULL);
     flattened(charstring, 1, L, sizeof L, list, n, limits, &locals, NULL);
+    bad_font(list, n, why, bad);
     if (bad != UNTOUCHED)
         entry_read(list, n, bad, why, UNTOUCHED, UNTOUCHED);
 }
@@ -295,7 +383,8 @@ int main(void)
     call_indexes();
     indexes();
     flattening();
+    fonts();
     bad_lists();
-    printf("smoke: ten functions, %u checks hold\n", checks);
+    printf("smoke: eleven functions, %u checks hold\n", checks);
     return 0;
 }

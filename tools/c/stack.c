@@ -1,7 +1,8 @@
 /*
  * How much stack each function of include/ighzamrel.h uses: it is called on a thread whose stack was painted before,
  * and the lowest byte that lost its paint is counted from the caller's frame. Flattening goes as deep as its profile
- * lets it, each string with hints, a mask, a Fixed and a call by a Fixed index.
+ * lets it, each string with hints, a mask, a Fixed and a call by a Fixed index; a font has one such glyph, or so many
+ * that their flat strings are more than it keeps.
  */
 #define _DEFAULT_SOURCE
 #include "ighzamrel.h"
@@ -12,19 +13,25 @@
 #include <string.h>
 #include <sys/mman.h>
 
-enum { STACK = 1 << 20, PAINT = 0xA5, ROOM = 4096 };
+enum { STACK = 1 << 20, PAINT = 0xA5, ROOM = 1 << 20, MOST_GLYPHS = 700 };
 
 static uint8_t *stack;
 static void (*work)(void);
 static long depth;
 static uint32_t answer;
 
-static uint8_t charstring[64], locals[4096], out[ROOM];
-static size_t charstring_len, locals_len, place, length;
-static uint32_t kind, tokens, entry, reason;
+static uint8_t charstring[64], locals[4096], charstrings[64 * MOST_GLYPHS], out[ROOM];
+static size_t charstring_len, locals_len, charstrings_len, place, length;
+static uint32_t kind, glyph, tokens, entry, reason;
 static int32_t value;
 static const uint8_t globals[] = {0, 0};
 static const uint32_t lengths[] = {3, 4};
+
+static void fail(const char *what)
+{
+    fprintf(stderr, "stack: %s\n", what);
+    exit(1);
+}
 
 /* One string of the chain, which calls entry `next`, or ends the glyph where next is negative. */
 static size_t put_string(uint8_t *to, int next)
@@ -66,6 +73,22 @@ static void chain(int entries)
     charstring_len = put_string(charstring, 0);
 }
 
+/* A font of so many glyphs, each of them the charstring. */
+static void font(int glyphs)
+{
+    static uint8_t joined[64 * MOST_GLYPHS];
+    static uint32_t each[MOST_GLYPHS];
+    size_t n = 0;
+    int i;
+    for (i = 0; i < glyphs; i++) {
+        memcpy(joined + n, charstring, charstring_len);
+        n += charstring_len;
+        each[i] = (uint32_t)charstring_len;
+    }
+    if (ighzamrel_write_index(each, (size_t)glyphs, joined, n, charstrings, sizeof charstrings, &charstrings_len))
+        fail("no font");
+}
+
 static void flatten(uint32_t profile)
 {
     answer = ighzamrel_flatten(charstring, charstring_len, globals, sizeof globals, locals, locals_len, profile, 1000000,
@@ -74,6 +97,14 @@ static void flatten(uint32_t profile)
 
 static void flatten_plain(void) { flatten(IGHZAMREL_PLAIN); }
 static void flatten_strict(void) { flatten(IGHZAMREL_STRICT); }
+static void flatten_font(uint32_t profile)
+{
+    answer = ighzamrel_flatten_font(charstrings, charstrings_len, globals, sizeof globals, locals, locals_len, profile,
+                                    1000000, out, ROOM, &length, &glyph, &tokens, &entry, &reason);
+}
+
+static void flatten_font_plain(void) { flatten_font(IGHZAMREL_PLAIN); }
+static void flatten_font_strict(void) { flatten_font(IGHZAMREL_STRICT); }
 static void read_charstring_number(void)
 {
     answer = ighzamrel_read_charstring_number(charstring, charstring_len, &kind, &value, &length);
@@ -100,12 +131,6 @@ static void *call(void *unused)
     return NULL;
 }
 
-static void fail(const char *what)
-{
-    fprintf(stderr, "stack: %s\n", what);
-    exit(1);
-}
-
 /* Prints how deep the function touched the stack. A first call, on the main thread, has the linker's work behind it. */
 static void measure(const char *name, void (*function)(void))
 {
@@ -124,6 +149,17 @@ static void measure(const char *name, void (*function)(void))
     printf("%-36s %6ld bytes\n", name, depth);
 }
 
+/* A font of the chain, in few bytes and in more than a call keeps. */
+static void measure_fonts(const char *few, const char *many, void (*function)(void))
+{
+    font(1);
+    measure(few, function);
+    font(MOST_GLYPHS);
+    measure(many, function);
+    if (length < 65536)
+        fail("the flat strings are too few");
+}
+
 int main(void)
 {
     stack = mmap(NULL, STACK, PROT_READ | PROT_WRITE, MAP_PRIVATE | MAP_ANONYMOUS, -1, 0);
@@ -133,9 +169,11 @@ int main(void)
     measure("flatten, plain, 64 strings deep", flatten_plain);
     if (tokens != 63 * 6 + 5)
         fail("the chain is not 64 deep");
+    measure_fonts("flatten_font, plain, one glyph", "flatten_font, plain, 700 glyphs", flatten_font_plain);
     chain(10);
     measure("flatten, plain, 11 strings deep", flatten_plain);
     measure("flatten, strict, 11 strings deep", flatten_strict);
+    measure_fonts("flatten_font, strict, one glyph", "flatten_font, strict, 700 glyphs", flatten_font_strict);
     measure("read_charstring_number", read_charstring_number);
     measure("read_dict_integer", read_dict_integer);
     measure("write_charstring_number", write_charstring_number);
