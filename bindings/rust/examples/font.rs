@@ -1,19 +1,23 @@
-//! Flattens every glyph of an OpenType font with CFF outlines, and counts what came of it.
+//! Flattens an OpenType font with CFF outlines in one go, and says what came of it.
 //!
 //!     cargo run --release --example font -- FILE [strict]
 //!
+//! A font whose glyphs have several local lists goes glyph by glyph, and so does one with a refused glyph, to count these.
 //! The sfnt directory and the CFF table are read just enough for that; of a collection, the first font.
 
 use std::collections::BTreeMap;
+use std::time::{Duration, Instant};
 use std::{env, fmt, fs, process};
 
 use ighzamrel::{
-    flatten_to_vec, read_dict_integer, read_entry, read_index, Profile, Refused, EMPTY_INDEX,
+    flatten_font_to_vec, flatten_to_vec, read_dict_integer, read_entry, read_index, Profile,
+    Refused, EMPTY_INDEX,
 };
 
-/// What one glyph may take: of time, in tokens, and of memory, in bytes.
+/// What one glyph may take of time, in tokens, and of memory, in bytes; and the INDEX of a whole font, of memory.
 const BUDGET: u32 = 1_000_000;
 const ROOM: usize = 1 << 20;
+const FONT_ROOM: usize = 1 << 28;
 
 fn main() {
     let words: Vec<String> = env::args().skip(1).collect();
@@ -25,8 +29,8 @@ fn main() {
     };
     let file =
         fs::read(path).unwrap_or_else(|why| fail(&format!("{path} cannot be read: {why}"), 1));
-    match count(&file, profile) {
-        Ok(counts) => print!("{path}: {counts}"),
+    match flatten(&file, profile) {
+        Ok(report) => print!("{path}: {report}"),
         Err(why) => fail(
             &format!("{path} is no OpenType font with CFF outlines: {why}"),
             1,
@@ -39,10 +43,30 @@ fn fail(why: &str, status: i32) -> ! {
     process::exit(status)
 }
 
+/// What came of a font.
+#[derive(Debug)]
+pub struct Report {
+    pub glyphs: u32,
+    /// Of the font in one go, where all its glyphs have the same local list.
+    pub whole: Option<Result<Whole, Refused>>,
+    /// Of its glyphs one by one, where that says more.
+    pub counts: Option<Counts>,
+}
+
+/// A font that was flattened in one go.
+#[derive(Debug)]
+pub struct Whole {
+    /// The bytes of its CharStrings INDEX.
+    pub before: usize,
+    /// The INDEX of its flat strings.
+    pub flat: Vec<u8>,
+    pub time: Duration,
+}
+
 /// What came of a font's glyphs.
 #[derive(Debug, Default, PartialEq)]
 pub struct Counts {
-    pub glyphs: u32,
+    pub flattened: u32,
     /// Of all glyphs, the refused ones too.
     pub tokens: u64,
     /// The bytes of the accepted charstrings.
@@ -53,39 +77,68 @@ pub struct Counts {
     pub refused: BTreeMap<Refused, u32>,
 }
 
+impl fmt::Display for Report {
+    fn fmt(&self, f: &mut fmt::Formatter<'_>) -> fmt::Result {
+        writeln!(f, "{} glyphs", self.glyphs)?;
+        match &self.whole {
+            Some(Ok(whole)) => writeln!(f, "  in one go: {whole}")?,
+            Some(Err(refused)) => writeln!(f, "  in one go: {refused}")?,
+            None => writeln!(f, "  they have several local lists")?,
+        }
+        self.counts
+            .iter()
+            .try_for_each(|counts| write!(f, "{counts}"))
+    }
+}
+
+impl fmt::Display for Whole {
+    fn fmt(&self, f: &mut fmt::Formatter<'_>) -> fmt::Result {
+        let (before, after, time) = (self.before, self.flat.len(), self.time);
+        write!(f, "{before} bytes before, {after} after, in {time:.1?}")
+    }
+}
+
 impl fmt::Display for Counts {
     fn fmt(&self, f: &mut fmt::Formatter<'_>) -> fmt::Result {
-        let refused: u32 = self.refused.values().sum();
-        writeln!(f, "{} glyphs in {} tokens", self.glyphs, self.tokens)?;
         writeln!(
             f,
-            "  {} flattened: {} bytes before, {} after",
-            self.glyphs - refused,
-            self.before,
-            self.after
+            "  one by one: {} flattened, {} bytes before, {} after, in {} tokens",
+            self.flattened, self.before, self.after, self.tokens
         )?;
-        writeln!(f, "  {refused} refused")?;
         self.refused
             .iter()
             .try_for_each(|(refused, times)| writeln!(f, "  {times} with {refused}"))
     }
 }
 
-/// Flattens each glyph of the font in these bytes.
-pub fn count(file: &[u8], profile: Profile) -> Result<Counts, String> {
+/// Flattens the font in these bytes.
+pub fn flatten(file: &[u8], profile: Profile) -> Result<Report, String> {
     let font = Font::read(cff_table(file)?)?;
-    let mut counts = Counts::default();
-    for glyph in 0..font.charstrings.count {
-        let locals = font.locals_of(glyph)?;
-        counts.glyphs += 1;
-        if let Err(refused) = counts.flatten(&font, glyph, locals, profile) {
-            *counts.refused.entry(refused).or_default() += 1;
-        }
-    }
-    Ok(counts)
+    let whole = font.only_list().map(|locals| font.whole(locals, profile));
+    let one_by_one = match &whole {
+        Some(answer) => matches!(answer, Err(Refused { glyph: Some(_), .. })),
+        None => true,
+    };
+    let counts = one_by_one.then(|| Counts::of(&font, profile)).transpose()?;
+    Ok(Report {
+        glyphs: font.charstrings.count,
+        whole,
+        counts,
+    })
 }
 
 impl Counts {
+    fn of(font: &Font, profile: Profile) -> Result<Counts, String> {
+        let mut counts = Counts::default();
+        for glyph in 0..font.charstrings.count {
+            let locals = font.locals_of(glyph)?;
+            if let Err(refused) = counts.flatten(font, glyph, locals, profile) {
+                *counts.refused.entry(refused).or_default() += 1;
+            }
+        }
+        Ok(counts)
+    }
+
     fn flatten(
         &mut self,
         font: &Font,
@@ -96,6 +149,7 @@ impl Counts {
         let charstring = &font.charstrings.bytes[read_entry(font.charstrings.bytes, glyph)?];
         match flatten_to_vec(charstring, font.globals, locals, profile, BUDGET, ROOM) {
             Ok(flat) => {
+                self.flattened += 1;
                 self.tokens += u64::from(flat.tokens);
                 self.before += charstring.len();
                 self.after += flat.bytes.len();
@@ -166,6 +220,32 @@ impl<'a> Font<'a> {
             globals: globals.bytes,
             locals: locals.collect::<Result<_, _>>()?,
             select: select.transpose()?,
+        })
+    }
+
+    /// The local list of all glyphs, where they do not choose one.
+    fn only_list(&self) -> Option<&'a [u8]> {
+        match self.select {
+            Some(_) => None,
+            None => self.locals.first().copied(),
+        }
+    }
+
+    fn whole(&self, locals: &[u8], profile: Profile) -> Result<Whole, Refused> {
+        let charstrings = self.charstrings.bytes;
+        let start = Instant::now();
+        let flat = flatten_font_to_vec(
+            charstrings,
+            self.globals,
+            locals,
+            profile,
+            BUDGET,
+            FONT_ROOM,
+        )?;
+        Ok(Whole {
+            before: charstrings.len(),
+            flat,
+            time: start.elapsed(),
         })
     }
 

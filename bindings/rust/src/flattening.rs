@@ -56,13 +56,18 @@ pub fn flatten(
     let lent = [charstring, globals, locals];
     let answer = ffi::flatten_to(lent, profile.number(), budget, out, &mut places);
     let (length, tokens) = (places.length, places.tokens);
-    let offered = Offered {
-        length: Some(length),
-        tokens: Some(tokens),
+    told_with(answer, Flat { length, tokens }, offered(&places))
+}
+
+/// What a flattening has in its places, but the glyph.
+pub(crate) fn offered(places: &ffi::Places) -> Offered {
+    Offered {
+        length: Some(places.length),
+        glyph: None,
+        tokens: Some(places.tokens),
         entry: Some(places.entry),
         reason: Some(places.reason),
-    };
-    told_with(answer, Flat { length, tokens }, offered)
+    }
 }
 
 /// The flat string of a charstring, in bytes of its own, where it has at most `room`.
@@ -78,16 +83,33 @@ pub fn flatten_to_vec(
     budget: u32,
     room: usize,
 ) -> Result<FlatVec, Refused> {
-    let run = |out: &mut [u8]| flatten(charstring, globals, locals, profile, budget, out);
-    let needed = match run(&mut []) {
+    let run = |out: &mut [u8]| {
+        let flat = flatten(charstring, globals, locals, profile, budget, out)?;
+        Ok((flat.length, flat.tokens))
+    };
+    let (bytes, tokens) = in_vec(0, room, run)?;
+    Ok(FlatVec { bytes, tokens })
+}
+
+/// What `run` writes to bytes of its own, and what it tells besides their length. It is run with the `first` room, and
+/// where that lacks with what it needs, up to `most`.
+pub(crate) fn in_vec<T>(
+    first: usize,
+    most: usize,
+    run: impl Fn(&mut [u8]) -> Result<(usize, T), Refused>,
+) -> Result<(Vec<u8>, T), Refused> {
+    let mut bytes = vec![0; first.min(most)];
+    let (length, told) = match run(&mut bytes) {
         Err(Refused {
             needed: Some(needed),
             ..
-        }) if needed <= room => needed,
-        Err(refused) => return Err(refused),
-        Ok(flat) => flat.length,
+        }) if needed <= most => {
+            bytes = vec![0; needed];
+            run(&mut bytes)?
+        }
+        answer => answer?,
     };
-    let mut bytes = vec![0; needed];
-    let tokens = run(&mut bytes)?.tokens;
-    Ok(FlatVec { bytes, tokens })
+    bytes.truncate(length);
+    bytes.shrink_to_fit();
+    Ok((bytes, told))
 }

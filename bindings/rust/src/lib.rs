@@ -1,9 +1,9 @@
-//! Type 2 charstrings of a CFF font made flat: one string without calls for each glyph, and the numbers and INDEXes
-//! that charstrings stand in.
+//! Type 2 charstrings of a CFF font made flat: one string without calls for each glyph, by itself or with all others of
+//! its font ([`flatten_font`]), and the numbers and INDEXes that charstrings stand in.
 //!
-//! This is a thin safe layer over the ten functions of Ighzamrel's static library. Each takes any bytes, ends, and
+//! This is a thin safe layer over the eleven functions of Ighzamrel's static library. Each takes any bytes, ends, and
 //! either accepts or gives one numbered [`Refusal`]; what each answers is proved, and this layer is tested. They keep no
-//! state, and but for [`flatten_to_vec`] allocate nothing; any threads may call at once.
+//! state, and but for [`flatten_to_vec`] and [`flatten_font_to_vec`] allocate nothing; any threads may call at once.
 //!
 //! ```
 //! use ighzamrel::{flatten_to_vec, Profile, Refusal, EMPTY_INDEX};
@@ -19,25 +19,27 @@
 //!
 //! let refused = flatten_to_vec(&charstring, EMPTY_INDEX, EMPTY_INDEX, Profile::Plain, budget, room).unwrap_err();
 //! assert_eq!(refused.refusal, Refusal::NoEntry);
-//! assert_eq!(refused.to_string(), "refusal 9: a call names a subroutine that is not there (after 2 tokens)");
+//! assert_eq!(refused.to_string(), "refusal 9: a call names a subroutine that is not there, at token 2");
 //! # Ok::<(), ighzamrel::Refused>(())
 //! ```
 //!
 //! # Panics
 //!
 //! No function panics with the archive of its own version. With another one, a refusal that this crate does not know
-//! does, and says so; [`flatten_to_vec`] aborts as any `Vec` does where memory lacks for the bytes that `room` lets it
-//! have.
+//! does, and says so; [`flatten_to_vec`] and [`flatten_font_to_vec`] abort as any `Vec` does where memory lacks for the
+//! bytes that `room` lets them have.
 #![deny(missing_docs)]
 #![deny(unsafe_code)]
 
 mod ffi;
 mod flattening;
+mod font;
 mod index;
 mod number;
 mod refusal;
 
 pub use flattening::{flatten, flatten_to_vec, Flat, FlatVec};
+pub use font::{flatten_font, flatten_font_to_vec};
 pub use index::{check_list, read_entry, read_index, write_index, IndexRead, EMPTY_INDEX};
 pub use number::{
     call_index, read_charstring_number, read_dict_integer, write_charstring_number,

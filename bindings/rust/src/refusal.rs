@@ -7,14 +7,16 @@ use std::fmt;
 #[derive(Clone, Copy, PartialEq, Eq)]
 enum Value {
     Length,
+    Glyph,
     Tokens,
     Entry,
     Reason,
 }
 
-/// The enum of refusals: number, name, what comes with it, its text, and its words where a list is refused for a reason.
+/// The enum of refusals: number, name, what comes with it, its text, its words before the tokens, and those where a list is
+/// refused for a reason.
 macro_rules! refusals {
-    ($($number:literal $name:ident [$($value:ident)*] $text:literal $({$clause:literal})?)*) => {
+    ($($number:literal $name:ident [$($value:ident)*] $text:literal $(($at:literal))? $({$clause:literal})?)*) => {
         /// Why an input was refused. The names and numbers are those of `include/ighzamrel.h`.
         ///
         /// Its text, by `Display`, is its number and a sentence for a person, as the crate's first example shows.
@@ -38,6 +40,12 @@ macro_rules! refusals {
                 }
             }
 
+            const fn at(self) -> &'static str {
+                match self {
+                    $(Refusal::$name => concat!($($at)?),)*
+                }
+            }
+
             const fn clause(self) -> &'static str {
                 match self {
                     $(Refusal::$name => concat!($($clause)?),)*
@@ -57,16 +65,16 @@ macro_rules! refusals {
 refusals! {
     1 BadGlobals [Entry Reason] "the list of global subroutines is not well formed" {"the global list's "}
     2 BadLocals [Entry Reason] "the list of local subroutines is not well formed" {"the local list's "}
-    3 BudgetSpent [Tokens] "the budget is spent"
-    4 BytesLacking [Tokens] "a number, an operator or a mask lacks bytes"
-    5 TooManyOperands [Tokens] "more than 48 operands wait"
-    6 Unknown [Tokens] "a byte starts no number, or an operator is not supported"
-    7 NoIndex [Tokens] "a call has no index, or one that is not whole"
-    8 IndexNotLast [Tokens] "a call's index does not stand last in the flat string"
-    9 NoEntry [Tokens] "a call names a subroutine that is not there"
-    10 TooDeep [Tokens] "calls nest over 64 strings deep in plain, over 11 in strict"
-    11 TooManyHints [Tokens] "there are over 65535 hints in plain, over 96 in strict"
-    12 Composite [Tokens] "endchar has four operands or more, for a glyph made of two others"
+    3 BudgetSpent [Glyph Tokens] "the budget is spent" (" after token ")
+    4 BytesLacking [Glyph Tokens] "a number, an operator or a mask lacks bytes" (", at token ")
+    5 TooManyOperands [Glyph Tokens] "more than 48 operands wait" (", at token ")
+    6 Unknown [Glyph Tokens] "a byte starts no number, or an operator is not supported" (", at token ")
+    7 NoIndex [Glyph Tokens] "a call has no index, or one that is not whole" (", at token ")
+    8 IndexNotLast [Glyph Tokens] "a call's index does not stand last in the flat string" (", at token ")
+    9 NoEntry [Glyph Tokens] "a call names a subroutine that is not there" (", at token ")
+    10 TooDeep [Glyph Tokens] "calls nest over 64 strings deep in plain, over 11 in strict" (", at token ")
+    11 TooManyHints [Glyph Tokens] "there are over 65535 hints in plain, over 96 in strict" (", at token ")
+    12 Composite [Glyph Tokens] "endchar has four operands or more, for a glyph made of two others" (", at token ")
     13 Short [Length Tokens] "the result is longer than the room for it"
     17 Outside16Bits [] "an integer to be written into a charstring is outside 16 bits"
     20 IndexLacking [] "an INDEX lacks bytes" {"bytes end too soon"}
@@ -75,6 +83,7 @@ refusals! {
     23 TooLong [] "an INDEX to be written has a last offset over 4294967295"
     24 LengthsMismatch [] "the lengths of an INDEX to be written do not add up to its data"
     25 PastCount [] "the INDEX has no entry of that number"
+    26 BadCharstrings [Entry Reason] "the CharStrings INDEX is not well formed" {"the CharStrings INDEX's "}
     40 ZeroOffset [Entry] "an offset of the entry, or the INDEX's last, is 0" {"an offset, or the list's last, is 0"}
     41 Descending [Entry] "the offsets of the entry descend" {"its offsets descend"}
     42 PastData [Entry] "the offsets of the entry pass the data" {"its offsets pass the data"}
@@ -97,14 +106,18 @@ impl Refusal {
         self.values().contains(&value)
     }
 
-    /// The refusal, with those of the values that come with it; with a reason comes what comes with that.
+    /// The refusal, with those of the values that come with it; with a reason comes what comes with that, and tokens of a
+    /// whole font only with the glyph that they are of.
     pub(crate) fn with(self, offered: Offered) -> Refused {
         let reason = offered.reason.filter(|_| self.has(Value::Reason));
         let reason = reason.map(Refusal::told);
+        let glyph = offered.glyph.filter(|_| self.has(Value::Glyph));
+        let run = glyph.is_some() == offered.glyph.is_some();
         Refused {
             refusal: self,
             needed: offered.length.filter(|_| self.has(Value::Length)),
-            tokens: offered.tokens.filter(|_| self.has(Value::Tokens)),
+            glyph,
+            tokens: offered.tokens.filter(|_| run && self.has(Value::Tokens)),
             entry: offered
                 .entry
                 .filter(|_| reason.unwrap_or(self).has(Value::Entry)),
@@ -117,6 +130,7 @@ impl Refusal {
 #[derive(Default)]
 pub(crate) struct Offered {
     pub length: Option<usize>,
+    pub glyph: Option<u32>,
     pub tokens: Option<u32>,
     pub entry: Option<u32>,
     pub reason: Option<u32>,
@@ -124,7 +138,7 @@ pub(crate) struct Offered {
 
 impl fmt::Display for Refusal {
     fn fmt(&self, f: &mut fmt::Formatter<'_>) -> fmt::Result {
-        write!(f, "refusal {}: {}", self.number(), self.text())
+        Refused::from(*self).fmt(f)
     }
 }
 
@@ -169,13 +183,15 @@ pub struct Refused {
     pub refusal: Refusal,
     /// With [`Refusal::Short`], how many bytes the result needs.
     pub needed: Option<usize>,
-    /// In flattening, how many tokens were run, the refused one among them but at [`Refusal::BudgetSpent`].
-    /// None where a list is not well formed, for then nothing was run.
+    /// Where a whole font is flattened, the number of the first glyph that is refused, counted from 0.
+    pub glyph: Option<u32>,
+    /// In flattening, how many tokens were run, the refused one among them but at [`Refusal::BudgetSpent`]; of a whole
+    /// font, those of the refused glyph. None where a list is not well formed, for then nothing was run.
     pub tokens: Option<u32>,
     /// Where a list is not well formed for want of an entry, the number of the first that it has not.
     pub entry: Option<u32>,
-    /// With [`Refusal::BadGlobals`] and [`Refusal::BadLocals`], what is wrong with the list:
-    /// [`Refusal::IndexLacking`] or [`Refusal::OffsetSize`]; or, with the entry, [`Refusal::ZeroOffset`],
+    /// With [`Refusal::BadGlobals`], [`Refusal::BadLocals`] and [`Refusal::BadCharstrings`], what is wrong with the
+    /// list: [`Refusal::IndexLacking`] or [`Refusal::OffsetSize`]; or, with the entry, [`Refusal::ZeroOffset`],
     /// [`Refusal::Descending`] or [`Refusal::PastData`].
     pub reason: Option<Refusal>,
 }
@@ -190,21 +206,32 @@ impl From<Refusal> for Refused {
 impl Refused {
     /// Whose list it is, its entry, and what is wrong with it.
     fn say_reason(&self, reason: Refusal, f: &mut fmt::Formatter<'_>) -> fmt::Result {
-        let list = self.refusal.clause();
-        write!(f, "refusal {}: {list}", self.refusal.number())?;
+        write!(f, "{}", self.refusal.clause())?;
         if let Some(entry) = self.entry {
             write!(f, "entry {entry}: ")?;
         }
         write!(f, "{}", reason.clause())
     }
+
+    fn say_tokens(&self, tokens: u32, f: &mut fmt::Formatter<'_>) -> fmt::Result {
+        match (self.refusal.at(), tokens) {
+            ("", 1) => write!(f, " (after 1 token)"),
+            ("", _) => write!(f, " (after {tokens} tokens)"),
+            (at, _) => write!(f, "{at}{tokens}"),
+        }
+    }
 }
 
 impl fmt::Display for Refused {
     fn fmt(&self, f: &mut fmt::Formatter<'_>) -> fmt::Result {
+        write!(f, "refusal {}: ", self.refusal.number())?;
         if let Some(reason) = self.reason {
             return self.say_reason(reason, f);
         }
-        write!(f, "{}", self.refusal)?;
+        if let Some(glyph) = self.glyph {
+            write!(f, "glyph {glyph}: ")?;
+        }
+        write!(f, "{}", self.refusal.text())?;
         if let Some(needed) = self.needed {
             write!(f, ", which must be {needed} bytes")?;
         }
@@ -212,8 +239,7 @@ impl fmt::Display for Refused {
             write!(f, " (entry {entry})")?;
         }
         match self.tokens {
-            Some(1) => write!(f, " (after 1 token)"),
-            Some(tokens) => write!(f, " (after {tokens} tokens)"),
+            Some(tokens) => self.say_tokens(tokens, f),
             None => Ok(()),
         }
     }

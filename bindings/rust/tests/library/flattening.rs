@@ -3,8 +3,8 @@ use ighzamrel::Profile::{Plain, Strict};
 use ighzamrel::*;
 
 /// The local list L of docs/RULES.md.
-const L: &[u8] = &[0x00, 0x01, 0x01, 0x01, 0x05, 0x8C, 0x8D, 0x15, 0x0B];
-const AMPLE: u32 = 1000;
+pub const L: &[u8] = &[0x00, 0x01, 0x01, 0x01, 0x05, 0x8C, 0x8D, 0x15, 0x0B];
+pub const AMPLE: u32 = 1000;
 const ROOM: usize = 64;
 
 /// A refusal of a run.
@@ -15,10 +15,10 @@ fn run(refusal: Refusal, tokens: u32) -> Refused {
     }
 }
 
-type Bytes = &'static [u8];
+pub type Bytes = &'static [u8];
 
 /// Each charstring with its local list, the flat string and the tokens.
-const ACCEPTED: [(Bytes, Bytes, Bytes, u32); 11] = [
+pub const ACCEPTED: [(Bytes, Bytes, Bytes, u32); 11] = [
     (&[], EMPTY_INDEX, &[], 0),
     (&[0x20, 0x0A, 0x0E], L, &[0x8C, 0x8D, 0x15, 0x0E], 7),
     (
@@ -58,7 +58,7 @@ const ACCEPTED: [(Bytes, Bytes, Bytes, u32); 11] = [
 ];
 
 /// Each charstring with its local list, the refusal and the tokens.
-const REFUSED: [(Bytes, Bytes, Refusal, u32); 8] = [
+pub const REFUSED: [(Bytes, Bytes, Refusal, u32); 8] = [
     (
         &[0x8B, 0x8B, 0x8B, 0x8B, 0x0E],
         EMPTY_INDEX,

@@ -4,21 +4,10 @@
 #[path = "../../examples/font.rs"]
 mod example;
 
-use crate::alone;
-use example::{count, Counts};
-use ighzamrel::{write_index, Profile, Refusal, Refused};
+use crate::{alone, index};
+use example::{flatten, Counts, Report};
+use ighzamrel::{Profile, Refusal, Refused};
 use std::collections::BTreeMap;
-
-fn index(elements: &[&[u8]]) -> Vec<u8> {
-    let lengths: Vec<u32> = elements
-        .iter()
-        .map(|element| element.len() as u32)
-        .collect();
-    let mut out = vec![0; 1000];
-    let length = write_index(&lengths, &elements.concat(), &mut out).unwrap();
-    out.truncate(length);
-    out
-}
 
 /// An operator of a DICT with its operands, each in five bytes, so that its length does not depend on them.
 fn entry(operands: &[usize], operator: &[u8]) -> Vec<u8> {
@@ -60,11 +49,11 @@ fn head(top: &[u8]) -> Vec<u8> {
 }
 
 fn plain_font() -> Vec<u8> {
-    font_with(&index(&[&[0x8C, 0x8D, 0x15, 0x0B]]))
+    font_with(&index(&GLYPHS), &index(&[&[0x8C, 0x8D, 0x15, 0x0B]]))
 }
 
-/// A font with this local list.
-fn font_with(locals: &[u8]) -> Vec<u8> {
+/// A font with these glyphs and this local list.
+fn font_with(glyphs: &[u8], locals: &[u8]) -> Vec<u8> {
     let top = |glyphs, private| {
         [
             &REAL[..],
@@ -74,9 +63,8 @@ fn font_with(locals: &[u8]) -> Vec<u8> {
         .concat()
     };
     let start = head(&top(0, 0)).len();
-    let glyphs = index(&GLYPHS);
     let head = head(&top(start, start + glyphs.len()));
-    file(b"CFF ", &[head, glyphs, private(locals)].concat())
+    file(b"CFF ", &[&head, glyphs, &private(locals)].concat())
 }
 
 /// A font with two Font DICTs: the first glyph goes by the second.
@@ -110,10 +98,14 @@ fn cid_font(select: &[u8]) -> Vec<u8> {
     )
 }
 
-fn counts(tokens: u64, before: usize, after: usize) -> Result<Counts, String> {
+fn plain(font: &[u8]) -> Report {
+    flatten(font, Profile::Plain).unwrap()
+}
+
+fn counts(tokens: u64, before: usize, after: usize) -> Option<Counts> {
     let refused = BTreeMap::from([(Refusal::Unknown.into(), 1)]);
-    Ok(Counts {
-        glyphs: 3,
+    Some(Counts {
+        flattened: 2,
         tokens,
         before,
         after,
@@ -122,46 +114,77 @@ fn counts(tokens: u64, before: usize, after: usize) -> Result<Counts, String> {
 }
 
 #[test]
-fn glyphs_are_counted() {
-    assert_eq!(count(&plain_font(), Profile::Plain), counts(9, 4, 5));
-    let text = count(&plain_font(), Profile::Strict).unwrap().to_string();
+fn a_font_is_flattened_in_one_go() {
+    let glyphs = index(&GLYPHS[..2]);
+    let font = font_with(&glyphs, &index(&[&[0x8C, 0x8D, 0x15, 0x0B]]));
+    let report = plain(&font);
+    let text = report.to_string();
+    let whole = report.whole.unwrap().unwrap();
+    assert_eq!(whole.flat, index(&[&[0x8C, 0x8D, 0x15, 0x0E], &[0x0E]]));
+    assert_eq!((report.glyphs, whole.before), (2, glyphs.len()));
+    assert_eq!(report.counts, None);
+    assert!(text.starts_with("2 glyphs\n  in one go: 10 bytes before, 11 after, in "));
+    assert_eq!(text.lines().count(), 2);
+}
+
+#[test]
+fn refused_glyphs_are_counted() {
+    assert_eq!(plain(&plain_font()).counts, counts(9, 4, 5));
+    let report = flatten(&plain_font(), Profile::Strict).unwrap();
+    let text = report.to_string();
     let lines: Vec<&str> = text.lines().map(str::trim).collect();
+    let first = report.whole.unwrap().unwrap_err();
+    assert_eq!((first.glyph, first.tokens), (Some(2), Some(1)));
     assert_eq!(
-        lines[..3],
+        lines,
         [
-            "3 glyphs in 9 tokens",
-            "2 flattened: 4 bytes before, 5 after",
-            "1 refused"
+            "3 glyphs",
+            &format!("in one go: {first}"),
+            "one by one: 2 flattened, 4 bytes before, 5 after, in 9 tokens",
+            &format!("1 with {}", Refusal::Unknown)
         ]
     );
-    assert!(lines[3].starts_with("1 with refusal 6: "));
 }
 
 #[test]
 fn a_damaged_list_is_told_with_its_entry() {
-    let font = font_with(&[0, 3, 1, 1, 2, 1, 2, 0x0B]);
-    let why = Refused {
+    let list = [0, 3, 1, 1, 2, 1, 2, 0x0B];
+    let why = |refusal| Refused {
         entry: Some(1),
         reason: Some(Refusal::Descending),
-        ..alone(Refusal::BadLocals)
+        ..alone(refusal)
     };
-    let counts = count(&font, Profile::Plain).unwrap();
-    assert_eq!(counts.refused, BTreeMap::from([(why, 3)]));
-    assert!(counts.to_string().ends_with(&format!("  3 with {why}\n")));
+    for (font, refusal) in [
+        (font_with(&index(&GLYPHS), &list), Refusal::BadLocals),
+        (font_with(&list, &index(&[])), Refusal::BadCharstrings),
+    ] {
+        let (report, why) = (plain(&font), why(refusal));
+        assert_eq!(
+            report.to_string(),
+            format!("3 glyphs\n  in one go: {why}\n")
+        );
+        assert_eq!(report.whole.unwrap().unwrap_err(), why);
+    }
 }
 
 #[test]
 fn a_glyph_goes_by_its_own_local_list() {
     let (each, ranges) = ([0, 1, 0, 0], [3, 0, 2, 0, 0, 1, 0, 1, 0, 0, 3]);
-    assert_eq!(count(&cid_font(&each), Profile::Plain), counts(8, 4, 4));
-    assert_eq!(count(&cid_font(&ranges), Profile::Plain), counts(8, 4, 4));
-    let why = count(&cid_font(&[0, 2, 0, 0]), Profile::Plain);
-    assert_eq!(why, Err("glyph 0 has no Font DICT".to_string()));
+    for select in [&each[..], &ranges] {
+        let report = plain(&cid_font(select));
+        assert!(report
+            .to_string()
+            .starts_with("3 glyphs\n  they have several local lists\n"));
+        assert_eq!(report.counts, counts(8, 4, 4));
+        assert!(report.whole.is_none());
+    }
+    let why = flatten(&cid_font(&[0, 2, 0, 0]), Profile::Plain).unwrap_err();
+    assert_eq!(why, "glyph 0 has no Font DICT");
 }
 
 #[test]
 fn a_file_that_is_no_such_font_is_told() {
-    let why = |file: &[u8]| count(file, Profile::Plain).unwrap_err();
+    let why = |file: &[u8]| flatten(file, Profile::Plain).unwrap_err();
     assert_eq!(why(b"GIF89a"), "it does not start as an OpenType file does");
     assert_eq!(why(b"OTTO"), "its table directory is cut off");
     assert_eq!(
@@ -190,8 +213,8 @@ fn damaged_fonts_are_told_or_counted() {
         {
             let mut damaged = font.clone();
             damaged[at] = value;
-            match count(&damaged, Profile::Plain) {
-                Ok(counts) => assert!(counts.refused.values().sum::<u32>() <= counts.glyphs),
+            match flatten(&damaged, Profile::Plain) {
+                Ok(report) => assert!(report.whole.is_some() || report.counts.is_some()),
                 Err(why) => assert!(!why.is_empty()),
             }
         }

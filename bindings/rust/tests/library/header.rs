@@ -32,8 +32,23 @@ fn texts_are_for_a_person() {
         run(Refusal::Short, Some(4), 7),
         ", which must be 4 bytes (after 7 tokens)",
     );
-    says(run(Refusal::Composite, None, 1), " (after 1 token)");
+    says(run(Refusal::Short, None, 1), " (after 1 token)");
+    says(run(Refusal::Composite, None, 1), ", at token 1");
+    says(run(Refusal::BudgetSpent, None, 6), " after token 6");
     says(Refusal::BadLocals.into(), "");
+}
+
+#[test]
+fn texts_tell_the_glyph_of_a_font() {
+    let refused = Refused {
+        glyph: Some(12),
+        tokens: Some(3),
+        ..alone(Refusal::NoEntry)
+    };
+    assert_eq!(
+        refused.to_string(),
+        "refusal 9: glyph 12: a call names a subroutine that is not there, at token 3"
+    );
 }
 
 /// It says what its refusal says, and then this.
@@ -58,6 +73,15 @@ fn texts_tell_what_is_wrong_with_a_list() {
         let said = format!("refusal 2: the local list's entry 812: {clause}");
         assert_eq!(refused.to_string(), said);
     }
+    let glyphs = list(
+        Refusal::BadCharstrings,
+        Some(812),
+        Some(Refusal::Descending),
+    );
+    assert_eq!(
+        glyphs.to_string(),
+        "refusal 26: the CharStrings INDEX's entry 812: its offsets descend"
+    );
     let unread = |reason| list(Refusal::BadGlobals, None, Some(reason)).to_string();
     let said = "refusal 1: the global list's bytes end too soon";
     assert_eq!(unread(Refusal::IndexLacking), said);

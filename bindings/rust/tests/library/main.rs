@@ -5,8 +5,9 @@ mod font;
 mod header;
 mod indexes;
 mod numbers;
+mod whole;
 
-use ighzamrel::{Refusal, Refused};
+use ighzamrel::{write_index, Refusal, Refused};
 
 /// What lent bytes hold before a call.
 const BLANK: u8 = 0xA5;
@@ -16,6 +17,7 @@ fn alone(refusal: Refusal) -> Refused {
     Refused {
         refusal,
         needed: None,
+        glyph: None,
         tokens: None,
         entry: None,
         reason: None,
@@ -42,6 +44,16 @@ const BAD_LISTS: [(&[u8], Refusal, Option<u32>); 8] = [
     (&[0, 3, 1, 1, 2, 1, 2, 0x0E], Refusal::Descending, Some(1)),
     (&[0, 3, 1, 1, 1, 3, 2, 0x0E], Refusal::PastData, Some(1)),
 ];
+
+/// The INDEX of these elements.
+fn index(elements: &[&[u8]]) -> Vec<u8> {
+    let lengths = elements.iter().map(|element| element.len() as u32);
+    let lengths: Vec<u32> = lengths.collect();
+    let mut out = vec![0; 1000];
+    let length = write_index(&lengths, &elements.concat(), &mut out).unwrap();
+    out.truncate(length);
+    out
+}
 
 /// What `write` leaves in so many blank bytes, and what it answers.
 fn lent<T>(room: usize, write: impl FnOnce(&mut [u8]) -> T) -> (T, Vec<u8>) {
