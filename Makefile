@@ -3,7 +3,7 @@ SECONDS =
 SOURCES = ../shared
 export SOURCES
 
-.PHONY: kit test run lib native size list driver differential faults fixed fuzz fuzz-faults bench clean
+.PHONY: kit test run lib native size list driver differential faults fixed fuzz fuzz-faults outlines bench clean
 
 # the proofs, the compiler and the loader are the kit's
 kit:
@@ -77,6 +77,12 @@ fuzz: driver
 fuzz-faults: driver
 	fuzz/build
 	fuzz/faults $(or $(SECONDS),60)
+
+# real fonts flattened whole and drawn before and after, by fontTools and FreeType; GLYPHS is the most that are drawn of each, FONTS as for the bench
+GLYPHS =
+outlines: native
+	tools/outlines --self-test $(FONTS)
+	tools/outlines $(GLYPHS:%=--glyphs %) $(FONTS)
 
 # speed, the proved functions against the Rust; FONTS names folders to look for fonts in, else Debian's are searched
 bench:
