@@ -1,6 +1,7 @@
-//! Flattening the glyphs of real fonts, and strings that are made to cost: ours and the unchanged Rust in one
+//! Flattening the glyphs of real fonts, and strings and fonts that are made to cost: ours and the unchanged Rust in one
 //! process, in turns, the best of many passes.
 
+mod folders;
 mod hand;
 mod hostile;
 // the Rust's side is compiled here, where it may be inlined
@@ -9,11 +10,11 @@ mod lists;
 mod ours;
 mod timing;
 
+use folders::fonts_asked_for;
 use lists::Lists;
-use oracle::fonts::{self, Font, Glyph};
+use oracle::fonts::{Font, Glyph};
 use ours::ours;
 use std::hint::black_box;
-use std::path::PathBuf;
 use std::process::ExitCode;
 use timing::best_of;
 
@@ -35,9 +36,8 @@ charstring with the same lists, and is told apart. By hand: the same loop in C w
 ";
 
 fn main() -> ExitCode {
-    let folders: Vec<PathBuf> = std::env::args_os().skip(1).map(PathBuf::from).collect();
     println!("{INTRODUCTION}");
-    if let Err(why) = of_fonts(&folders) {
+    if let Err(why) = fonts_asked_for().and_then(of_fonts) {
         eprintln!("{why}");
         return ExitCode::FAILURE;
     }
@@ -97,14 +97,11 @@ impl Times {
     }
 }
 
-fn of_fonts(folders: &[PathBuf]) -> Result<(), String> {
+fn of_fonts(fonts: Vec<Font>) -> Result<(), String> {
     println!("| font | glyphs | tokens | ours, a glyph | the Rust | the Rust / ours | ours, a token | by hand, a token | the check | ours with the check | the Rust / ours with the check |");
     println!("|---|---|---|---|---|---|---|---|---|---|---|");
-    let mut found: Vec<(Font, Option<Times>)> = Vec::new();
-    for path in fonts::files(folders) {
-        let read = fonts::read(&path).map_err(|e| format!("{}: {e}", path.display()))?;
-        found.extend(read.into_iter().map(|font| (font, None)));
-    }
+    let mut found: Vec<(Font, Option<Times>)> =
+        fonts.into_iter().map(|font| (font, None)).collect();
     for _ in 0..ROUNDS {
         for (font, best) in &mut found {
             let times = of_font(font)?;
@@ -119,12 +116,6 @@ fn of_fonts(folders: &[PathBuf]) -> Result<(), String> {
         let Some(times) = best else { continue };
         times.row(&font.name);
         all.add(times);
-    }
-    if all.glyphs == 0 {
-        return Err(format!(
-            "there are no CFF fonts here; name a folder, or install some: apt-get install {}",
-            fonts::PACKAGES
-        ));
     }
     all.row("all");
     Ok(())

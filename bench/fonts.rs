@@ -1,19 +1,20 @@
 //! Whole fonts: one call of ours for all glyphs and their INDEX, the unchanged Rust, and a call of ours for each glyph,
 //! in one process, in turns, the best of several passes.
 
+mod folders;
 // the Rust's side is compiled here, where it may be inlined
 #[path = "../tools/oracle/source/flattening.rs"]
 mod lists;
 mod ours;
 mod timing;
 
+use folders::fonts_asked_for;
 use lists::Lists;
-use oracle::fonts::{self, Font, Glyph};
+use oracle::fonts::{Font, Glyph};
 use oracle::inputs::case::list;
 use oracle::library::{ighzamrel_read_entry, ighzamrel_write_index};
 use ours::{ours, ours_of_font};
 use std::hint::black_box;
-use std::path::PathBuf;
 use std::process::ExitCode;
 use subsetter::cff::index::{create_index, parse_index};
 use subsetter::read::Reader;
@@ -38,15 +39,12 @@ checks both lists each time, and then ighzamrel_write_index. A font whose glyphs
 ";
 
 fn main() -> ExitCode {
-    let folders: Vec<PathBuf> = std::env::args_os().skip(1).map(PathBuf::from).collect();
     println!("{INTRODUCTION}");
-    match of_fonts(&folders) {
-        Ok(()) => ExitCode::SUCCESS,
-        Err(why) => {
-            eprintln!("{why}");
-            ExitCode::FAILURE
-        }
+    if let Err(why) = fonts_asked_for().and_then(|found| of_fonts(&found)) {
+        eprintln!("{why}");
+        return ExitCode::FAILURE;
     }
+    ExitCode::SUCCESS
 }
 
 /// The glyphs of a font that go by one local list, as a font of their own.
@@ -86,11 +84,7 @@ impl<'a> Whole<'a> {
     }
 }
 
-fn of_fonts(folders: &[PathBuf]) -> Result<(), String> {
-    let mut found: Vec<Font> = Vec::new();
-    for path in fonts::files(folders) {
-        found.extend(fonts::read(&path).map_err(|e| format!("{}: {e}", path.display()))?);
-    }
+fn of_fonts(found: &[Font]) -> Result<(), String> {
     let mut wholes: Vec<Whole> = found.iter().flat_map(wholes_of).collect();
     let all = wholes.len();
     for whole in &mut wholes {
@@ -101,6 +95,12 @@ fn of_fonts(folders: &[PathBuf]) -> Result<(), String> {
     for _ in 0..ROUNDS {
         wholes.iter_mut().for_each(measure);
     }
+    print(&wholes);
+    println!("CFF tables: {}; fonts that both sides refuse: {}", found.len(), all - wholes.len());
+    Ok(())
+}
+
+fn print(wholes: &[Whole]) {
     println!("| fonts | how many | glyphs | flat bytes | ours, milliseconds | the Rust | the Rust / ours | lowest | highest | ours, nanoseconds a glyph | the Rust | glyph by glyph | glyph by glyph / ours |");
     println!("|---|---|---|---|---|---|---|---|---|---|---|---|---|");
     let (once, twice): (Vec<&Whole>, Vec<&Whole>) = wholes.iter().partition(|whole| whole.fits());
@@ -108,19 +108,9 @@ fn of_fonts(folders: &[PathBuf]) -> Result<(), String> {
     row("whose glyphs are run once", &once);
     row("whose glyphs are run twice", &twice);
     println!();
-    println!(
-        "{} files' tables; refused by both sides and not timed: {}",
-        found.len(),
-        all - wholes.len()
-    );
-    let Some(most) = wholes.iter().max_by_key(|whole| whole.tokens) else {
-        return Err(format!(
-            "there are no CFF fonts here; name a folder, or install some: apt-get install {}",
-            fonts::PACKAGES
-        ));
-    };
-    println!("the most tokens of a glyph: {} ({})", most.tokens, most.name);
-    Ok(())
+    if let Some(most) = wholes.iter().max_by_key(|whole| whole.tokens) {
+        println!("The most tokens of a glyph: {} ({}).", most.tokens, most.name);
+    }
 }
 
 fn row(what: &str, wholes: &[&Whole]) {
