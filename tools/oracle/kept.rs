@@ -4,7 +4,6 @@ use crate::rules::index::{formed, Flaw};
 use crate::source::flattening::Lists;
 use std::cell::RefCell;
 use std::ops::Range;
-use subsetter::Error;
 
 pub struct Kept {
     lists: [Vec<u8>; 2],
@@ -41,11 +40,11 @@ impl Kept {
         Kept { lists: lists.map(<[u8]>::to_vec), formed, entries }
     }
 
-    /// The Rust's flat string. The lists have to be well formed, and the run has to end.
-    pub fn flattened(&self, charstring: &[u8]) -> Result<Vec<u8>, Error> {
+    /// The Rust's lists, which have to be well formed.
+    pub fn source(&self) -> Lists<'_> {
         let [globals, locals] = [0, 1]
             .map(|i| self.entries[i].iter().map(|place| &self.lists[i][place.clone()]).collect());
-        Lists { globals, locals }.flattened(charstring)
+        Lists { globals, locals }
     }
 }
 

@@ -17,6 +17,9 @@ const PAGE: usize = 1 << 16;
 /// How many bytes on the side where there is no page are looked at.
 const GUARD: usize = 64;
 
+/// The most room that can be lent.
+pub const MOST_ROOM: usize = ARENA - GUARD;
+
 /// What a place holds before a call.
 const UNSET: u64 = 0xA55A_5AA5_C33C_3CC3;
 

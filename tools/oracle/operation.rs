@@ -7,7 +7,7 @@ use std::borrow::Cow;
 use std::collections::BTreeSet;
 
 /// The most places that a C function has.
-pub const PLACES: usize = 4;
+pub const PLACES: usize = 5;
 
 pub struct Operation {
     /// Its number in the program `cases`.
@@ -222,6 +222,11 @@ impl Outcome {
 impl Lent {
     pub fn place<T>(&self, which: usize) -> *mut T {
         self.places.wrapping_add(which).cast()
+    }
+
+    pub fn word(&self, which: usize) -> u32 {
+        // SAFETY: as below.
+        unsafe { *self.place(which) }
     }
 
     pub fn size(&self, which: usize) -> usize {

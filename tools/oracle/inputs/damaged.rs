@@ -25,7 +25,7 @@ fn hurt_list(list: &mut Vec<u8>, random: &mut Random) {
     }
 }
 
-fn hurt(string: &mut Vec<u8>, random: &mut Random) {
+pub fn hurt(string: &mut Vec<u8>, random: &mut Random) {
     let any = random.next() as u8;
     if string.is_empty() {
         return string.push(any);

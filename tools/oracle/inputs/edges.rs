@@ -4,7 +4,35 @@ use super::case::{
     list, Case, Given, AMPLE, FIRST, GLOBAL, L, LOCAL, NONE, PLAIN, SECOND, STRICT, THIRD,
 };
 use super::index::flawed;
+use super::loose::FULL_STEM;
 use crate::rules::flattening::Verdict;
+
+/// Entries of a local list, from the `first` on: a string, and then such as run the one before eight times.
+pub(super) struct Ladder {
+    pub first: u8,
+    pub rungs: u8,
+}
+
+/// How many full stems there may be in plain: fifteen hints are left.
+pub(super) const MOST_STEMS: u64 = 2730;
+
+impl Ladder {
+    pub fn entries(&self, string: &[u8]) -> Vec<Vec<u8>> {
+        let rung = |i: u8| [FIRST + self.first + i - 1, LOCAL].repeat(8);
+        std::iter::once(string.to_vec()).chain((1..self.rungs).map(rung)).collect()
+    }
+
+    /// Calls that run the string so many times.
+    pub fn times(&self, mut n: u64) -> Vec<u8> {
+        let mut calls = Vec::new();
+        for i in (0..self.rungs).rev() {
+            let held = 8u64.pow(i.into());
+            calls.extend([FIRST + self.first + i, LOCAL].repeat((n / held) as usize));
+            n %= held;
+        }
+        calls
+    }
+}
 
 /// All of them; the flat strings with most hints into no room.
 pub(super) fn all() -> Vec<Given> {
@@ -23,8 +51,19 @@ pub(super) fn all() -> Vec<Given> {
     .concat()
 }
 
+/// A list that is bad in each way: 20 at each of three places, 21, emptied, an entry whose offsets descend, and one past the data.
+pub(super) const BAD: [&[u8]; 7] = [
+    &[],
+    &[0x00],
+    &[0x00, 0x01],
+    &[0x00, 0x01, 0x05, 0x01, 0x01],
+    &[0x00, 0x02, 0x01, 0x01, 0x01, 0x00],
+    &[0x00, 0x02, 0x01, 0x02, 0x01, 0x02, 0x0B],
+    &[0x00, 0x02, 0x01, 0x01, 0x03, 0x02, 0x0B],
+];
+
 /// What each refusal of a run comes from, on lists whose third entries call themselves.
-fn triggers() -> Vec<Vec<u8>> {
+pub(super) fn triggers() -> Vec<Vec<u8>> {
     let mut triggers: Vec<Vec<u8>> = vec![
         vec![0x1C, 0x00],
         vec![0xF7],
@@ -83,17 +122,8 @@ fn refused() -> Vec<Given> {
 
 /// 1 and 2, before everything else that is wrong; where both lists are bad, by flaws of their own.
 fn bad_lists() -> Vec<Given> {
-    let bad: [&[u8]; 7] = [
-        &[],
-        &[0x00],
-        &[0x00, 0x01],
-        &[0x00, 0x01, 0x05, 0x01, 0x01],
-        &[0x00, 0x02, 0x01, 0x01, 0x01, 0x00],
-        &[0x00, 0x02, 0x01, 0x02, 0x01, 0x02, 0x0B],
-        &[0x00, 0x02, 0x01, 0x01, 0x03, 0x02, 0x0B],
-    ];
     let mut asked = Vec::new();
-    for list in bad {
+    for list in BAD {
         for case in
             [Case::new(&[0x00], list, L), Case::new(&[0x00], L, list), Case::new(&[], list, list)]
         {
@@ -184,14 +214,10 @@ fn strict_hints() -> Vec<Given> {
     asked
 }
 
-/// 65535 hints and 65536, at a stem and at a mask, by entries of 1, 8, 64 and 512 full stems.
+/// 65535 hints and 65536, at a stem and at a mask.
 pub(super) fn plain_hints(room: usize) -> Vec<Given> {
-    let stem = [&[0x8B; 48][..], &[0x01]].concat();
-    let eight = |entry: u8| [entry, LOCAL].repeat(8);
-    let locals = list(&[stem, eight(FIRST), eight(FIRST + 1), eight(FIRST + 2)]);
-    let times = |entry: u8, n: usize| [entry, LOCAL].repeat(n);
-    let whole =
-        [times(FIRST + 3, 5), times(FIRST + 2, 2), times(FIRST + 1, 5), times(FIRST, 2)].concat();
+    let stems = Ladder { first: 0, rungs: 4 };
+    let (locals, whole) = (list(&stems.entries(&FULL_STEM)), stems.times(MOST_STEMS));
     let mut asked = Vec::new();
     for operands in [30, 31, 32] {
         for operator in [0x01, 0x13] {

@@ -9,6 +9,10 @@ use std::collections::HashSet;
 pub fn listed() -> Vec<Given> {
     let mut asked: Vec<Given> = rows().iter().chain(&readings()).flat_map(Case::around).collect();
     asked.extend(edges::all());
+    each_once(asked)
+}
+
+pub(super) fn each_once(mut asked: Vec<Given>) -> Vec<Given> {
     let mut seen = HashSet::new();
     asked.retain(|given| seen.insert(given.clone()));
     asked
@@ -38,7 +42,7 @@ pub fn more() -> Vec<Given> {
 }
 
 /// The rows of docs/RULES.md.
-fn rows() -> Vec<Case> {
+pub(super) fn rows() -> Vec<Case> {
     let local = |charstring: &[u8], locals: &[u8]| Case::new(charstring, NONE, locals);
     vec![
         local(&[], NONE),

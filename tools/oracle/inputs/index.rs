@@ -119,6 +119,15 @@ impl Parts {
     }
 }
 
+/// An INDEX of these entries with offsets of a size, and so many bytes of data before the first entry.
+pub fn laid(entries: &[&[u8]], size: u8, before: usize) -> Vec<u8> {
+    let lengths: Vec<u32> = entries.iter().map(|entry| entry.len() as u32).collect();
+    let mut parts = Parts::of(&lengths, size);
+    parts.offsets.iter_mut().for_each(|offset| *offset += before as u32);
+    parts.data = [data(before), entries.concat()].concat();
+    parts.laid()
+}
+
 /// Bytes that differ from their neighbours.
 pub fn data(length: usize) -> Vec<u8> {
     (0..length).map(|i| (0x11 + 7 * i) as u8).collect()

@@ -8,7 +8,7 @@ pub const PATHS: [u8; 13] = [4, 5, 6, 7, 8, 21, 22, 24, 25, 26, 27, 30, 31];
 pub const STEMS: [u8; 4] = [1, 3, 18, 23];
 
 /// 48 operands and a stem: 24 hints.
-const FULL_STEM: [u8; 49] = {
+pub const FULL_STEM: [u8; 49] = {
     let mut bytes = [0x8B; 49];
     bytes[48] = 1;
     bytes

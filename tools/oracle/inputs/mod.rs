@@ -4,6 +4,7 @@ pub mod case;
 mod damaged;
 mod edges;
 pub mod flattening;
+pub mod font;
 pub mod index;
 mod loose;
 pub mod number;
@@ -11,4 +12,4 @@ mod structured;
 
 pub use damaged::damaged;
 pub use loose::loose;
-pub use structured::structured;
+pub use structured::{structured, structured_font};

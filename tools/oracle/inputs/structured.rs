@@ -2,6 +2,7 @@
 //! that call others, over lists on both sides of each bias. About a third have one thing wrong in them.
 
 use super::case::{list, Case, GLOBAL, LOCAL};
+use super::font::Font;
 use super::loose::{add_number, PATHS, STEMS};
 use crate::random::Random;
 use crate::rules::number::{bias, written, Operand, Place};
@@ -43,11 +44,17 @@ struct Making<'r> {
 
 /// A charstring with its lists.
 pub fn structured(random: &mut Random) -> Case {
+    let Font { mut glyphs, globals, locals } = structured_font(1, random);
+    Case { charstring: glyphs.pop().unwrap_or_default(), globals, locals }
+}
+
+/// So many charstrings that share their lists, and have masks of one width.
+pub fn structured_font(count: usize, random: &mut Random) -> Font {
     let deep = random.once_in(12);
     let locals = vec![Vec::new(); any_count(deep, random)];
     let globals = vec![Vec::new(); any_count(deep, random)];
     let hints = any_hints(random);
-    let until_wrong = if random.once_in(3) { random.within(0, 3) } else { -1 };
+    let until_wrong = if random.once_in(3) { random.within(0, 2 + count as i64) } else { -1 };
     let mask_length = hints.div_ceil(8);
     let mut making = Making { random, mask_length, locals, globals, made: Vec::new(), until_wrong };
     if deep {
@@ -56,8 +63,8 @@ pub fn structured(random: &mut Random) -> Case {
     for _ in 0..making.random.within(0, 6) {
         making.subroutine();
     }
-    let charstring = making.charstring(hints, deep);
-    Case { charstring, globals: list(&making.globals), locals: list(&making.locals) }
+    let glyphs = (0..count).map(|_| making.charstring(hints, deep)).collect();
+    Font { glyphs, globals: list(&making.globals), locals: list(&making.locals) }
 }
 
 /// Mostly a few entries; at times as many as a nearly whole Fixed can call, or around a bound of the bias.

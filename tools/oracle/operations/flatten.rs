@@ -59,24 +59,22 @@ pub static OPERATION: Operation = Operation {
     owed,
     invoke,
     next,
-    listed: |_| flattening::listed().into_iter().map(flatten).collect(),
-    beyond: || flattening::beyond(MOST).into_iter().map(flatten).collect(),
-    more: |_| flattening::more().into_iter().map(flatten).collect(),
-    random: |_, random| any(random),
+    listed: |operation| of(operation, flattening::listed()),
+    beyond: || of(&OPERATION, flattening::beyond(MOST)),
+    more: |operation| of(operation, flattening::more()),
+    random: any,
     faults: &[
         Fault {
             name: "one token too many is told",
-            plant: |call, lent| after(call, lent, |answer| answer == 0, |lent| add_token(lent, 0)),
+            plant: |call, lent| after(call, lent, accepts, |lent| add_token(lent, 0)),
         },
         Fault {
             name: "one token too many is told of more than 20",
-            plant: |call, lent| after(call, lent, |answer| answer == 0, |lent| add_token(lent, 20)),
+            plant: |call, lent| after(call, lent, accepts, |lent| add_token(lent, 20)),
         },
         Fault {
             name: "a refusal of the run sets the length",
-            plant: |call, lent| {
-                after(call, lent, |answer| (3..=12).contains(&answer), |lent| set(lent, 0, 0usize))
-            },
+            plant: |call, lent| after(call, lent, stops, |lent| set(lent, 0, 0usize)),
         },
         Fault {
             name: "refusal 2 sets the tokens",
@@ -110,15 +108,15 @@ pub static OPERATION: Operation = Operation {
         },
         Fault {
             name: "a reason is told where the charstring is accepted",
-            plant: |call, lent| after(call, lent, |answer| answer == 0, |lent| set(lent, 3, 0u32)),
+            plant: |call, lent| after(call, lent, accepts, |lent| set(lent, 3, 0u32)),
         },
         Fault {
             name: "an entry is told where the INDEX is refused",
-            plant: |call, lent| after(call, lent, bad_list, tell_entry),
+            plant: |call, lent| after(call, lent, refuses_list, tell_entry),
         },
         Fault {
             name: "the entry and the reason are exchanged",
-            plant: |call, lent| after(call, lent, bad_list, exchange),
+            plant: |call, lent| after(call, lent, refuses_list, exchange),
         },
         Fault { name: "1 tells what is wrong with the local list", plant: by_locals },
     ],
@@ -141,21 +139,26 @@ fn flatten_by(lent: &Lent, profile: u32, budget: u32, room: usize) -> u32 {
     }
 }
 
-fn flatten(given: Given) -> Call<'static> {
+/// Each asked of an operation.
+pub fn of(operation: &'static Operation, given: Vec<Given>) -> Vec<Call<'static>> {
+    given.into_iter().map(|given| asked(operation, given)).collect()
+}
+
+pub fn asked(operation: &'static Operation, given: Given) -> Call<'static> {
     let Given { case: Case { charstring, globals, locals }, profile, budget, room } = given;
     let slices = [charstring, globals, locals].map(Cow::Owned);
-    Call { profile, budget, room, slices, ..Call::of(&OPERATION) }
+    Call { profile, budget, room, slices, ..Call::of(operation) }
 }
 
 /// A charstring that mostly runs to its end, a looser one, or one of either with bytes hurt.
-fn any(random: &mut Random) -> Call<'static> {
+fn any(operation: &'static Operation, random: &mut Random) -> Call<'static> {
     let mut case = if random.once_in(8) { loose(random) } else { structured(random) };
     if random.once_in(5) {
         case = damaged(case, random);
     }
     let budget = if random.once_in(4) { random.within(0, 300) as u32 } else { AMPLE };
     let room = if random.once_in(4) { random.within(0, 40) } else { 1500 };
-    flatten(case.asked(random.within(0, 1) as u32, budget, room as usize))
+    asked(operation, case.asked(random.within(0, 1) as u32, budget, room as usize))
 }
 
 fn owed(call: &Call) -> Result<Owed, String> {
@@ -163,49 +166,69 @@ fn owed(call: &Call) -> Result<Owed, String> {
     Kept::with([globals, locals], |kept| {
         let lists = match rules::Lists::known(globals, locals, kept.formed) {
             Ok(lists) => lists,
-            Err(bad) => return Ok(Owed::by_rule(told(&bad, call.room))),
+            Err(bad) => return Ok(Owed::by_rule(bad_list(call.operation, bad))),
         };
         let (verdict, met) = lists.flattened(charstring, call.strict(), call.budget);
-        let outcome = told(&verdict, call.room);
+        let outcome = told(call, &verdict);
         let owed = match by_rust(&verdict).filter(|_| !call.strict()) {
-            Some(rule) => Owed::by_both(outcome, rule, kept.flattened(charstring)),
+            Some(rule) => Owed::by_both(outcome, rule, kept.source().flattened(charstring)),
             None => Ok(Owed::by_rule(outcome)),
         };
         owed.map(|owed| Owed { met: Some(met), ..owed })
     })
 }
 
-fn told(verdict: &Verdict, room: usize) -> Outcome {
+fn told(call: &Call, verdict: &Verdict) -> Outcome {
     match verdict {
         Verdict::Flat(flat, tokens) => {
-            let (answer, bytes) = if flat.len() > room { (13, Vec::new()) } else { (0, flat.clone()) };
+            let fits = flat.len() <= call.room;
+            let (answer, bytes) = if fits { (0, flat.clone()) } else { (13, Vec::new()) };
             Outcome::told(answer, [flat.len() as i64, (*tokens).into()], bytes)
         }
-        Verdict::BadList(refusal, flaw) => {
-            let values = [None, None, flaw.entry().map(i64::from), Some(flaw.reason().into())];
-            Outcome { values, ..Outcome::refused(*refusal) }
-        }
-        Verdict::Stopped(refusal, tokens) => {
-            let values = [None, Some((*tokens).into()), None, None];
-            Outcome { values, ..Outcome::refused(*refusal) }
-        }
+        Verdict::BadList(refusal, flaw) => bad_list(call.operation, (*refusal, *flaw)),
+        Verdict::Stopped(refusal, tokens) => stopped(*refusal, *tokens),
     }
+}
+
+/// The refusal of a run, with its tokens.
+pub fn stopped(refusal: u32, tokens: u32) -> Outcome {
+    let mut told = Outcome::refused(refusal);
+    told.values[1] = Some(tokens.into());
+    told
+}
+
+/// The refusal of a list: why, at the place for reasons, and the entry at the place before it.
+pub fn bad_list(operation: &Operation, (refusal, flaw): (u32, Flaw)) -> Outcome {
+    let mut told = Outcome::refused(refusal);
+    if let Some((place, _)) = operation.reasons {
+        told.values[place - 1] = flaw.entry().map(i64::from);
+        told.values[place] = Some(flaw.reason().into());
+    }
+    told
 }
 
 /// What the Rust owes for a verdict, or `None` where it has no word.
 fn by_rust(verdict: &Verdict) -> Option<Result<Vec<u8>, Error>> {
     match verdict {
         Verdict::Flat(bytes, _) => Some(Ok(bytes.clone())),
-        Verdict::BadList(..) | Verdict::Stopped(3 | 8 | 11, _) => None,
-        Verdict::Stopped(12, _) => Some(Err(Error::Unimplemented)),
-        Verdict::Stopped(..) => Some(Err(Error::CFFError)),
+        Verdict::BadList(..) => None,
+        Verdict::Stopped(refusal, _) => error(*refusal).map(Err),
+    }
+}
+
+/// The Rust's error for the refusal of a run, or `None` where it has no word.
+pub fn error(refusal: u32) -> Option<Error> {
+    match refusal {
+        3 | 8 | 11 => None,
+        12 => Some(Error::Unimplemented),
+        _ => Some(Error::CFFError),
     }
 }
 
 fn next<'a>(call: &'a Call<'a>, outcome: &'a Outcome) -> Vec<Next<'a>> {
     let mut next = rooms(call, outcome);
     next.extend(budgets(call, outcome));
-    next.extend(lists(call, outcome));
+    next.extend(lists(call, outcome, &[(1, 1), (2, 2)]));
     if outcome.answer == 0 {
         let slices = [&outcome.bytes[..], NONE, NONE].map(Cow::Borrowed);
         let budget = outcome.values[1].unwrap_or(0) as u32;
@@ -215,13 +238,17 @@ fn next<'a>(call: &'a Call<'a>, outcome: &'a Outcome) -> Vec<Next<'a>> {
             law: "the flat string does not flatten to itself in as many tokens",
         });
     }
+    next.push(other_profile(call, outcome));
+    next
+}
+
+pub fn other_profile<'a>(call: &'a Call<'a>, outcome: &Outcome) -> Next<'a> {
     let accepted = outcome.answer == 0 && call.strict();
-    next.push(Next {
+    Next {
         call: Call { profile: u32::from(!call.strict()), ..call.again() },
         must: if accepted { Must::GiveTheSame } else { Must::Any },
         law: "plain does not give what strict accepts",
-    });
-    next
+    }
 }
 
 /// A budget of just the tokens and any larger one give the same; one less gives 3.
@@ -244,23 +271,30 @@ fn budgets<'a>(call: &'a Call<'a>, outcome: &'a Outcome) -> Vec<Next<'a>> {
     next
 }
 
-/// 1 and 2 tell what the check of that list tells; with 2 the global list is well formed.
-fn lists<'a>(call: &'a Call<'a>, outcome: &Outcome) -> Vec<Next<'a>> {
-    let [.., entry, Some(reason)] = outcome.values else { return Vec::new() };
-    let list = |which: u32, must: Must<'a>| {
+/// The refusal of a list tells what the check of that one tells, and those that are looked at before it are well formed. The
+/// refusals come in their order, each with the slice that its list is.
+pub fn lists<'a>(
+    call: &'a Call<'a>,
+    outcome: &Outcome,
+    order: &[(u32, usize)],
+) -> Vec<Next<'a>> {
+    let list = |which: usize, must: Must<'a>| {
         let law = "a list is not refused as the check of it says";
-        Next { call: check(&call.slices[which as usize]), must, law }
+        Next { call: check(&call.slices[which]), must, law }
     };
-    let told = Outcome { values: [None, entry, None, None], ..Outcome::refused(reason as u32) };
-    let mut next = vec![list(outcome.answer, Must::Give(told))];
-    if outcome.answer == 2 {
-        next.push(list(1, Must::Tell(Vec::new())));
-    }
+    let Some(at) = order.iter().position(|(refusal, _)| *refusal == outcome.answer) else {
+        return Vec::new();
+    };
+    let Some((place, _)) = call.operation.reasons else { return Vec::new() };
+    let mut told = Outcome::refused(outcome.values[place].unwrap_or(0) as u32);
+    told.values[1] = outcome.values[place - 1];
+    let mut next = vec![list(order[at].1, Must::Give(told))];
+    next.extend(order[..at].iter().map(|(_, before)| list(*before, Must::Tell(Vec::new()))));
     next
 }
 
 /// The library's answer; and then something is done where it is such a one.
-fn after(call: &Call, lent: &Lent, such: fn(u32) -> bool, harm: fn(&Lent)) -> u32 {
+pub fn after(call: &Call, lent: &Lent, such: fn(u32) -> bool, harm: fn(&Lent)) -> u32 {
     let answer = library(call, lent);
     if such(answer) {
         harm(lent);
@@ -268,7 +302,16 @@ fn after(call: &Call, lent: &Lent, such: fn(u32) -> bool, harm: fn(&Lent)) -> u3
     answer
 }
 
-fn set<T>(lent: &Lent, which: usize, value: T) {
+pub fn accepts(answer: u32) -> bool {
+    answer == 0
+}
+
+/// Whether a run was refused.
+pub fn stops(answer: u32) -> bool {
+    (3..=12).contains(&answer)
+}
+
+pub fn set<T>(lent: &Lent, which: usize, value: T) {
     unsafe { *lent.place(which) = value };
 }
 
@@ -277,7 +320,7 @@ fn add_token(lent: &Lent, above: u32) {
     set(lent, 1, tokens + u32::from(tokens > above));
 }
 
-fn bad_list(answer: u32) -> bool {
+fn refuses_list(answer: u32) -> bool {
     answer == 1 || answer == 2
 }
 

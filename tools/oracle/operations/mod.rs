@@ -22,4 +22,5 @@ operations! {
     check_list
     entry_by_view
     flatten
+    flatten_font
 }

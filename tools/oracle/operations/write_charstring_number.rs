@@ -2,6 +2,7 @@
 
 use super::{read_charstring_number, read_dict_integer};
 use crate::inputs::number::{any_operand, any_room, FIXEDS, FIXED_EXAMPLES, INTEGERS, WRITTEN};
+use crate::lend::MOST_ROOM;
 use crate::library::ighzamrel_write_charstring_number;
 use crate::operation::{Argument, Call, Found, Lent, Must, Next, Operation, Outcome, Owed, Place, BARE};
 use crate::record::MOST;
@@ -104,6 +105,10 @@ pub fn rooms<'a>(call: &'a Call<'a>, outcome: &'a Outcome) -> Vec<Next<'a>> {
     let (0 | 13, Some(length)) = (outcome.answer, outcome.values[0]) else { return Vec::new() };
     let length = length as usize;
     let into = |room: usize| Call { room, ..call.again() };
+    if length >= MOST_ROOM {
+        let law = "the most room is enough for more";
+        return vec![Next { call: into(MOST_ROOM), must: Must::GiveTheSame, law }];
+    }
     let enough = |room: usize| Next {
         call: into(room),
         must: match outcome.answer {

@@ -46,10 +46,21 @@ impl Verdict {
 
 const MOST_OPERANDS: usize = 48;
 
-/// An item of the flat string, and the token that it came from.
-struct Item {
+/// An item of the flat string, and the token that it came from. A mask stays where it stands, behind its operator.
+struct Item<'a> {
     token: u32,
     bytes: Vec<u8>,
+    mask: &'a [u8],
+}
+
+/// A flat string that is not joined, so that one of any length can be told.
+pub struct Flat<'a>(Vec<Item<'a>>);
+
+/// The run's first refusal or the flat string, the tokens begun, and what the run met.
+pub struct Ran<'a> {
+    pub flat: Result<Flat<'a>, Refusal>,
+    pub tokens: u32,
+    pub met: Met,
 }
 
 /// A subroutine list and how many entries it has.
@@ -90,7 +101,7 @@ struct Run<'a> {
     tokens: u32,
     /// The operands, each with the token that it came from.
     stack: Vec<(Operand, u32)>,
-    flat: Vec<Item>,
+    flat: Vec<Item<'a>>,
     hints: usize,
     mask_length: usize,
     met: Met,
@@ -101,7 +112,17 @@ pub fn flattened(asked: &Asked) -> Verdict {
     let formed = [asked.globals, asked.locals].map(indexes::formed);
     match Lists::known(asked.globals, asked.locals, formed) {
         Ok(lists) => lists.flattened(asked.charstring, asked.strict, asked.budget).0,
-        Err(bad) => bad,
+        Err((refusal, flaw)) => Verdict::BadList(refusal, flaw),
+    }
+}
+
+impl Flat<'_> {
+    pub fn length(&self) -> u64 {
+        self.0.iter().map(|item| (item.bytes.len() + item.mask.len()) as u64).sum()
+    }
+
+    pub fn joined(&self) -> Vec<u8> {
+        self.0.iter().flat_map(|item| [&item.bytes[..], item.mask]).collect::<Vec<_>>().concat()
     }
 }
 
@@ -111,17 +132,25 @@ impl<'a> Lists<'a> {
         globals: &'a [u8],
         locals: &'a [u8],
         formed: [Result<u32, Flaw>; 2],
-    ) -> Result<Self, Verdict> {
+    ) -> Result<Self, (Refusal, Flaw)> {
         let [global, local] = formed;
-        let bad = |refusal| move |flaw| Verdict::BadList(refusal, flaw);
+        let bad = |refusal| move |flaw| (refusal, flaw);
         Ok(Lists {
             globals: List { bytes: globals, count: global.map_err(bad(1))? },
             locals: List { bytes: locals, count: local.map_err(bad(2))? },
         })
     }
 
-    /// The run's first refusal, or the flat string; and what the run met.
     pub fn flattened(self, charstring: &'a [u8], strict: bool, budget: u32) -> (Verdict, Met) {
+        let ran = self.run(charstring, strict, budget);
+        let verdict = match ran.flat {
+            Ok(flat) => Verdict::Flat(flat.joined(), ran.tokens),
+            Err(refusal) => Verdict::Stopped(refusal, ran.tokens),
+        };
+        (verdict, ran.met)
+    }
+
+    pub fn run(self, charstring: &'a [u8], strict: bool, budget: u32) -> Ran<'a> {
         let mut run = Run {
             strict,
             budget,
@@ -133,13 +162,8 @@ impl<'a> Lists<'a> {
             mask_length: 0,
             met: Met::default(),
         };
-        let verdict = match run.string(charstring, 1) {
-            Ok(_) => {
-                Verdict::Flat(run.flat.into_iter().flat_map(|i| i.bytes).collect(), run.tokens)
-            }
-            Err(refusal) => Verdict::Stopped(refusal, run.tokens),
-        };
-        (verdict, run.met)
+        let ended = run.string(charstring, 1);
+        Ran { flat: ended.map(|_| Flat(run.flat)), tokens: run.tokens, met: run.met }
     }
 }
 
@@ -185,7 +209,11 @@ impl<'a> Run<'a> {
     }
 
     fn keep(&mut self, bytes: Vec<u8>) {
-        self.flat.push(Item { token: self.tokens, bytes });
+        self.keep_with(bytes, &[]);
+    }
+
+    fn keep_with(&mut self, bytes: Vec<u8>, mask: &'a [u8]) {
+        self.flat.push(Item { token: self.tokens, bytes, mask });
     }
 
     /// 4, then 5. What follows the number comes back, here and below.
@@ -237,7 +265,7 @@ impl<'a> Run<'a> {
             self.mask_length = self.hints.div_ceil(8);
         }
         let (mask, after) = from.split_at_checked(self.mask_length).ok_or(4u32)?;
-        self.keep([&[b], mask].concat());
+        self.keep_with(vec![b], mask);
         self.met.masks += 1;
         Ok(after)
     }

@@ -111,10 +111,7 @@ pub fn written(lengths: &[u32], data: &[u8]) -> Result<Vec<u8>, Refusal> {
         return Err(22);
     }
     let sum: u64 = lengths.iter().map(|&length| u64::from(length)).sum();
-    let last = sum + 1;
-    if last > 4_294_967_295 {
-        return Err(23);
-    }
+    needed(lengths.len(), sum)?;
     if sum != data.len() as u64 {
         return Err(24);
     }
@@ -122,7 +119,7 @@ pub fn written(lengths: &[u32], data: &[u8]) -> Result<Vec<u8>, Refusal> {
     if lengths.is_empty() {
         return Ok(bytes);
     }
-    let size = offset_size(last);
+    let size = offset_size(sum + 1);
     bytes.push(size as u8);
     let mut offset = 1;
     bytes.extend(low_bytes(offset, size));
@@ -132,6 +129,17 @@ pub fn written(lengths: &[u32], data: &[u8]) -> Result<Vec<u8>, Refusal> {
     }
     bytes.extend(data);
     Ok(bytes)
+}
+
+/// How many bytes an INDEX of so many elements has, with so many bytes in all: 23.
+pub fn needed(count: usize, sum: u64) -> Result<u64, Refusal> {
+    if sum + 1 > 4_294_967_295 {
+        return Err(23);
+    }
+    match count {
+        0 => Ok(2),
+        _ => Ok(data_start(count, offset_size(sum + 1) as usize) as u64 + sum),
+    }
 }
 
 /// The size of the offsets of which this is the last.

@@ -1,7 +1,7 @@
 //! Both subroutine lists as the Rust keeps them, and its flattening by them.
 
 use subsetter::cff::charstring::{CharString, Decompiler};
-use subsetter::cff::index::parse_index;
+use subsetter::cff::index::{create_index, parse_index};
 use subsetter::cff::subroutines::SubroutineHandler;
 use subsetter::read::Reader;
 use subsetter::Error;
@@ -23,6 +23,13 @@ impl<'a> Lists<'a> {
             (SubroutineHandler::new(&self.globals), SubroutineHandler::new(&self.locals));
         let program = Decompiler::new(handlers.0, handlers.1).decompile(charstring)?;
         Ok(program.compile())
+    }
+
+    /// The INDEX of the flat strings of all glyphs; the first error decides. The glyphs have to be a well-formed list, and the
+    /// runs up to that error have to end.
+    pub fn font(&self, charstrings: &[u8]) -> Result<Vec<u8>, Error> {
+        let flat = entries(charstrings).into_iter().map(|glyph| self.flattened(glyph));
+        Ok(create_index(flat.collect::<Result<_, _>>()?)?.data)
     }
 }
 
