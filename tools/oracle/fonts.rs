@@ -1,8 +1,10 @@
 //! The charstrings and subroutine lists of OpenType fonts: the sfnt directory and the CFF table, read just enough, INDEXes and
 //! numbers by the rules.
 
+use crate::inputs::case::list;
 use crate::rules::index as indexes;
 use crate::rules::number::{self as numbers, Operand, Place};
+use std::borrow::Cow;
 use std::ops::Range;
 use std::path::{Path, PathBuf};
 use std::{fs, io};
@@ -22,6 +24,7 @@ pub struct Font {
     pub name: String,
     table: Vec<u8>,
     globals: Range<usize>,
+    charstrings: Range<usize>,
     /// The local list of each Private DICT, where it has one.
     locals: Vec<Option<Range<usize>>>,
     /// Each charstring, and whose local list it goes by.
@@ -41,8 +44,32 @@ impl Font {
         self.glyphs.iter().map(|(charstring, whose)| Glyph {
             charstring: &self.table[charstring.clone()],
             globals: &self.table[self.globals.clone()],
-            locals: self.locals[*whose].clone().map_or(NO_LIST, |list| &self.table[list]),
+            locals: self.local_list(*whose),
         })
+    }
+
+    /// The INDEX of one glyph in so many, and their lists; one for each local list, where glyphs go by several. All glyphs of one
+    /// list stand as the font has them.
+    pub fn whole(&self, step: usize) -> Vec<[Cow<'_, [u8]>; 3]> {
+        let globals = &self.table[self.globals.clone()];
+        let of = |whose: usize| {
+            let theirs = |glyph: &&(Range<usize>, usize)| glyph.1 == whose;
+            let some = self.glyphs.iter().step_by(step).filter(theirs);
+            let some: Vec<&[u8]> = some.map(|glyph| &self.table[glyph.0.clone()]).collect();
+            match some.len() {
+                all if all == self.glyphs.len() => {
+                    Cow::Borrowed(&self.table[self.charstrings.clone()])
+                }
+                _ => Cow::Owned(list(&some)),
+            }
+        };
+        let lists =
+            |whose| [of(whose), Cow::Borrowed(globals), Cow::Borrowed(self.local_list(whose))];
+        (0..self.locals.len()).map(lists).collect()
+    }
+
+    fn local_list(&self, whose: usize) -> &[u8] {
+        self.locals[whose].clone().map_or(NO_LIST, |list| &self.table[list])
     }
 }
 
@@ -134,8 +161,8 @@ fn font(name: String, table: Vec<u8>) -> Option<Font> {
         })
         .collect::<Option<_>>()?;
     let locals = privates.iter().map(|private| local_list(&table, private)).collect();
-    let globals = globals.start..globals.end;
-    Some(Font { name, globals, locals, glyphs, table })
+    let [globals, charstrings] = [globals, charstrings].map(|index| index.start..index.end);
+    Some(Font { name, globals, charstrings, locals, glyphs, table })
 }
 
 /// Where a DICT says that its Private DICT is.

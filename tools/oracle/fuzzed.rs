@@ -3,15 +3,16 @@
 //!     0       which operation, by its place among them
 //!     1       flags, as below
 //!     2       a number that is added to the others' sum; see `may_be_long`
-//!     3, 4    the budget, modulo 5000; where it may be long, as it is, and from FFF0 on 150000
+//!     3, 4    the budget, modulo 5000; where it may be long, as it is, and from FFF0 on 150000; a tenth of it for each glyph of a font
 //!     5, 6    the room, modulo 600; from FFF0 on, 40000
 //!     7..10   a value
 //!     11..14  a number
 //!     15..18  how many bytes behind the head are the last slice, and the one before it; the first slice is all that is left
 
 use crate::inputs::case::NONE;
-use crate::operation::{Argument, Call};
+use crate::operation::{Argument, Call, Operation};
 use crate::operations::OPERATIONS;
+use crate::rules::index::entries;
 use std::borrow::Cow;
 use std::path::Path;
 
@@ -21,7 +22,7 @@ const STRICT: u8 = 1;
 const FIXED: u8 = 2;
 /// A list is an INDEX built from its bytes, cut into entries; else its bytes as they are.
 const BUILT: u8 = 4;
-/// All lists are the very bytes of the first.
+/// All lists of subroutines are the very bytes of the first.
 const SHARED: u8 = 8;
 /// Strict, and a Fixed, by numbers other than 1.
 const ODD: u8 = 16;
@@ -73,6 +74,9 @@ pub fn call(bytes: &[u8]) -> Call<'static> {
         budget if budget < 0xFFF0 => budget,
         _ => AMPLE,
     };
+    if takes_font(operation) {
+        call.budget /= 10;
+    }
     call.room = match word(&head[5..7]) as usize {
         room if room < 0xFFF0 => room % 600,
         _ => WIDE,
@@ -100,13 +104,14 @@ fn fill(call: &mut Call, slices: [&[u8]; 3], flags: u8, long: bool) {
             }
             Argument::Bytes(i) => call.slices[i] = Cow::Owned(slices[i].to_vec()),
             Argument::List(i) => {
+                let charstrings = i == 0 && takes_font(call.operation);
                 let shared = first_list.filter(|_| flags & SHARED != 0);
                 call.slices[i] = match shared {
                     Some(first) => call.slices[first].clone(),
-                    None if flags & BUILT != 0 => Cow::Owned(built(slices[i], long)),
+                    None if flags & BUILT != 0 => Cow::Owned(built(slices[i], charstrings, long)),
                     None => Cow::Owned(slices[i].to_vec()),
                 };
-                first_list = first_list.or(Some(i));
+                first_list = first_list.or(Some(i)).filter(|_| !charstrings);
             }
             Argument::Lengths => call.slices[0] = Cow::Owned(lengths(slices[0], flags)),
             _ => {}
@@ -114,10 +119,27 @@ fn fill(call: &mut Call, slices: [&[u8]; 3], flags: u8, long: bool) {
     }
 }
 
+/// Whether the first list is the charstrings of a font, and the others are its subroutines.
+fn takes_font(operation: &Operation) -> bool {
+    (0..3).all(|i| operation.arguments.contains(&Argument::List(i)))
+}
+
+/// How many entries a list has at least: around each count at which the bias changes. Charstrings are that many only where it may
+/// be long: around 4,096, and around as many as there can be.
+fn least(shape: u8, charstrings: bool, long: bool) -> usize {
+    let near = usize::from(shape & 15);
+    match (shape, charstrings, long) {
+        (0..0xD0, ..) | (_, true, false) => 0,
+        (_, false, false) => 1_233 + near,
+        (_, false, true) => 33_892 + near,
+        (0xD0..0xF0, true, true) => 4_089 + near,
+        (_, true, true) => 65_520 + near,
+    }
+}
+
 /// A well-formed INDEX. The first byte says its least offset size, how many bytes of data stand before the first entry, and how
-/// many entries there are at least: around each count at which the bias changes. A byte says the length of each entry that is
-/// given; empty ones follow.
-fn built(from: &[u8], long: bool) -> Vec<u8> {
+/// many entries there are at least. A byte says the length of each entry that is given; empty ones follow.
+fn built(from: &[u8], charstrings: bool, long: bool) -> Vec<u8> {
     let mut left = from;
     let shape = cut(&mut left, 1).first().copied().unwrap_or(0);
     let mut entries: Vec<&[u8]> = Vec::new();
@@ -125,12 +147,7 @@ fn built(from: &[u8], long: bool) -> Vec<u8> {
         left = &left[1..];
         entries.push(cut(&mut left, usize::from(length)));
     }
-    let least = match shape {
-        0..0xD0 => 0,
-        _ if long => 33_892 + usize::from(shape & 15),
-        _ => 1_233 + usize::from(shape & 15),
-    };
-    entries.resize(entries.len().max(least), &[]);
+    entries.resize(entries.len().max(least(shape, charstrings, long)), &[]);
     let before = usize::from(shape >> 2 & 3);
     let last = 1 + before + entries.iter().map(|entry| entry.len()).sum::<usize>();
     let size = (usize::from(shape & 3) + 1).max(last.ilog2() as usize / 8 + 1);
@@ -179,7 +196,8 @@ fn seed(call: &Call) -> Option<Vec<u8>> {
     let [last, middle, first] = order.map(|i| &call.slices[i][..]);
     let flags = if call.strict() { STRICT } else { 0 } | if call.fixed() { FIXED } else { 0 };
     let mut seed = vec![place as u8, flags, 0];
-    seed.extend((call.budget.min(4999) as u16).to_be_bytes());
+    let budget = call.budget.saturating_mul(if takes_font(call.operation) { 10 } else { 1 });
+    seed.extend((budget.min(4999) as u16).to_be_bytes());
     seed.extend((call.room.min(599) as u16).to_be_bytes());
     seed.extend(call.value.to_be_bytes());
     seed.extend(call.number.to_be_bytes());
@@ -188,19 +206,39 @@ fn seed(call: &Call) -> Option<Vec<u8>> {
     Some([&seed[..], last, middle, first].concat())
 }
 
-/// Writes inputs to start from: some of each operation's listed calls that are short, and the long ones, whose bytes add up as
-/// `may_be_long` asks by the third of the head.
+/// The same with lists that are built, where they are well formed and their entries short.
+fn built_seed(call: &Call) -> Option<Vec<u8>> {
+    let mut other = call.owned();
+    for list in &mut other.slices {
+        let mut from = vec![0];
+        for entry in entries(list).ok()? {
+            from.push(u8::try_from(entry.len()).ok()?);
+            from.extend(entry);
+        }
+        *list = Cow::Owned(from);
+    }
+    let mut seed = seed(&other)?;
+    seed[1] |= BUILT;
+    Some(seed)
+}
+
+/// Writes inputs to start from: some of each operation's listed calls that are short, fonts also built, and the long ones, whose
+/// bytes add up as `may_be_long` asks by the third of the head.
 pub fn write_seeds(folder: &str) -> Result<(), String> {
     const MOST: usize = 300;
     const OF_EACH: usize = 250;
     let mut seeds: Vec<Vec<u8>> = Vec::new();
     for operation in OPERATIONS {
-        let short: Vec<_> = (operation.listed)(operation)
-            .iter()
-            .filter_map(seed)
-            .filter(|seed| seed.len() < MOST)
-            .collect();
-        seeds.extend(short.iter().step_by(short.len().div_ceil(OF_EACH).max(1)).cloned());
+        let listed = (operation.listed)(operation);
+        let mut extend = |made: fn(&Call) -> Option<Vec<u8>>| {
+            let short = listed.iter().filter_map(made).filter(|seed| seed.len() < MOST);
+            let short: Vec<_> = short.collect();
+            seeds.extend(short.iter().step_by(short.len().div_ceil(OF_EACH).max(1)).cloned());
+        };
+        extend(seed);
+        if takes_font(operation) {
+            extend(built_seed);
+        }
     }
     seeds.extend(long_seeds());
     let folder = Path::new(folder);
@@ -212,37 +250,68 @@ pub fn write_seeds(folder: &str) -> Result<(), String> {
     Ok(())
 }
 
-/// Calls over lists with another bias, over 65,535 hints, and INDEXes of most elements.
+/// Those that may be long.
 fn long_seeds() -> Vec<Vec<u8>> {
-    let entry = |bytes: &[u8]| [&[bytes.len() as u8], bytes].concat();
-    let twice = |i: u8| entry(&[33 + i, 0x0A, 33 + i, 0x0A]);
-    let stems = entry(&[&[0x8B; 48][..], &[1]].concat());
-    let doubled = [(0..12).flat_map(twice).collect(), stems].concat();
-    let two = [entry(&[0x8C, 0x0B]), entry(&[0x8D])].concat();
-    let flatten = OPERATIONS.iter().position(|operation| operation.number == 8).unwrap_or(0) as u8;
-    let write = OPERATIONS.iter().position(|operation| operation.number == 7).unwrap_or(0) as u8;
-    let head = |place: u8, flags: u8, list: usize| {
-        let mut head = vec![place, flags, 0, 0xFF, 0xFF, 0xFF, 0xFF];
-        head.resize(HEAD, 0);
-        head[18] = list as u8;
-        head
-    };
-    let by_list = |list: Vec<u8>, charstring: &[u8], flags: u8| {
-        [&head(flatten, flags | BUILT | SHARED, list.len())[..], &list, charstring].concat()
-    };
-    let mut seeds = Vec::new();
-    for flags in [0, STRICT] {
-        for shape in [0xD6, 0xD7, 0xD8, 0xF7] {
-            let calls =
-                [0xFE, 0xFF, 0x0A, 0xFE, 0xFE, 0x1D, 0x20, 0x0A, 0x1C, 0x80, 0x00, 0x0A, 0x0E];
-            seeds.push(by_list([&[shape][..], &two].concat(), &calls, flags));
-        }
-        seeds.push(by_list([&[0][..], &doubled].concat(), &[0x20, 0x0A, 0x8B, 0x8B, 0x0E], flags));
-    }
-    seeds.push(head(write, MANY, 0));
+    let mut seeds = [over_lists(), fonts()].concat();
+    seeds.push(long_head(7, MANY, 0));
     for seed in &mut seeds {
         let sum = seed.iter().map(|&b| u32::from(b)).sum::<u32>() % 64;
         seed[2] = ((64 - sum) % 64) as u8;
     }
     seeds
+}
+
+/// The head of an operation by its number, with all the budget and room; the slice before the last has so many bytes.
+fn long_head(number: u8, flags: u8, middle: usize) -> Vec<u8> {
+    let place = OPERATIONS.iter().position(|operation| operation.number == number).unwrap_or(0);
+    let mut head = vec![place as u8, flags, 0, 0xFF, 0xFF, 0xFF, 0xFF];
+    head.resize(HEAD, 0);
+    head[18] = middle as u8;
+    head
+}
+
+/// An operation over one list of subroutines, which is built.
+fn over_list(number: u8, flags: u8, list: &[u8], first: &[u8]) -> Vec<u8> {
+    [&long_head(number, flags | BUILT | SHARED, list.len())[..], list, first].concat()
+}
+
+/// An entry of a list that is built.
+fn entry(bytes: &[u8]) -> Vec<u8> {
+    [&[bytes.len() as u8], bytes].concat()
+}
+
+/// Charstrings over lists with another bias, and over 65,535 hints.
+fn over_lists() -> Vec<Vec<u8>> {
+    let twice = |i: u8| entry(&[33 + i, 0x0A, 33 + i, 0x0A]);
+    let stems = entry(&[&[0x8B; 48][..], &[1]].concat());
+    let doubled = [vec![0], (0..12).flat_map(twice).collect(), stems].concat();
+    let mut seeds = Vec::new();
+    for flags in [0, STRICT] {
+        for shape in [0xD6, 0xD7, 0xD8, 0xF7] {
+            let calls =
+                [0xFE, 0xFF, 0x0A, 0xFE, 0xFE, 0x1D, 0x20, 0x0A, 0x1C, 0x80, 0x00, 0x0A, 0x0E];
+            seeds.push(over_list(8, flags, &two(shape), &calls));
+        }
+        seeds.push(over_list(8, flags, &doubled, &[0x20, 0x0A, 0x8B, 0x8B, 0x0E]));
+    }
+    seeds
+}
+
+/// Fonts of 4,096 glyphs and one more, and of as many as there can be; and of 16 KiB and 56 KiB of flat strings.
+fn fonts() -> Vec<Vec<u8>> {
+    let many = |shape: u8| [&[shape][..], &entry(&[0x20, 0x0A, 0x0E])].concat();
+    let mut seeds: Vec<_> =
+        [0xD7, 0xD8, 0xFE, 0xFF].map(|shape| over_list(33, 0, &two(0), &many(shape))).to_vec();
+    let eight = |called: u8| entry(&[called, 0x0A].repeat(8));
+    let list = [vec![0], entry(&[0x15; 64]), eight(0x20), eight(0x21)].concat();
+    for glyphs in [2, 7] {
+        let glyphs = entry(&[0x22, 0x0A, 0x22, 0x0A]).repeat(glyphs);
+        seeds.push(over_list(33, STRICT, &list, &[&[0][..], &glyphs].concat()));
+    }
+    seeds
+}
+
+/// Two entries, or more by the shape.
+fn two(shape: u8) -> Vec<u8> {
+    [vec![shape], entry(&[0x8C, 0x0B]), entry(&[0x8D])].concat()
 }

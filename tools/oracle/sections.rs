@@ -2,10 +2,11 @@
 
 use crate::compare::Comparison;
 use crate::fonts::{self, Font};
-use crate::inputs::case::{L, NONE};
+use crate::inputs::case::{L, NONE, STRICT};
 use crate::inputs::{damaged, structured};
+use crate::lend::MOST_ROOM;
 use crate::operation::Call;
-use crate::operations::{flatten, OPERATIONS};
+use crate::operations::{flatten, flatten_font, OPERATIONS};
 use crate::random::Random;
 use crate::shrink::described;
 use crate::tally::Tally;
@@ -145,7 +146,7 @@ impl Run {
         Ok(sum(&threads))
     }
 
-    /// The glyphs of the fonts in these folders, at most so many of a font, and how many fonts there were.
+    /// The glyphs of the fonts in these folders, at most so many of a font, one by one and together, and how many fonts there were.
     pub fn fonts(&self, folders: &[PathBuf], most: usize) -> Result<(Tally, usize), String> {
         let files = fonts::files(folders);
         let work = Work { name: "fonts", parts: files.len() as u64, until: None };
@@ -163,11 +164,18 @@ impl Run {
     }
 }
 
+/// Glyph by glyph, and in one call for each local list in both profiles.
 fn of_font(part: &mut Part, font: &Font, most: usize) -> Result<(), String> {
     let step = font.glyphs().count().div_ceil(most).max(1);
     for glyph in font.glyphs().step_by(step) {
         // a font's lists are long, and are lent anew at each call: so of what follows, a third
         part.flatten([glyph.charstring, glyph.globals, glyph.locals], LONG, 3)?;
+    }
+    for slices in font.whole(step) {
+        let room = (4 * slices[0].len() + 64).min(MOST_ROOM);
+        let call = Call { budget: LONG, room, slices, ..Call::of(&flatten_font::OPERATION) };
+        part.look(&Call { profile: STRICT, ..call.again() }, 3)?;
+        part.look(&call, 3)?;
     }
     Ok(())
 }

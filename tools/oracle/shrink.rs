@@ -3,7 +3,7 @@
 use crate::compare::{Comparison, Difference};
 use crate::inputs::case::list;
 use crate::operation::{Argument, Call};
-use crate::rules::index as indexes;
+use crate::rules::index::entries;
 use std::borrow::Cow;
 
 /// How many smaller inputs are tried, and the budget beyond which no run of theirs is followed.
@@ -64,8 +64,11 @@ impl Shrinking<'_> {
                 Argument::Bytes(i) => self.drop_bytes(i, 1),
                 Argument::Lengths => self.drop_bytes(0, 4),
                 Argument::List(i) => match entries(&self.smallest.call.slices[i]) {
-                    Some(entries) => self.drop_from_entries(i, entries),
-                    None => self.drop_bytes(i, 1),
+                    Ok(entries) => {
+                        let entries = entries.into_iter().map(<[u8]>::to_vec).collect();
+                        self.drop_from_entries(i, entries)
+                    }
+                    Err(_) => self.drop_bytes(i, 1),
                 },
                 _ => false,
             };
@@ -93,15 +96,22 @@ impl Shrinking<'_> {
         smaller
     }
 
-    /// Leaves out the last entries, and bytes of those that have some.
+    /// Leaves out runs of entries at either end, long ones first, and bytes of those that are left.
     fn drop_from_entries(&mut self, which: usize, mut entries: Vec<Vec<u8>>) -> bool {
         let mut smaller = false;
-        while let Some(fewer) = entries.len().checked_sub(1) {
-            if !self.with(which, list(&entries[..fewer])) {
-                break;
+        let mut width = entries.len();
+        while width > 0 {
+            while let Some(fewer) = entries.len().checked_sub(width) {
+                if self.with(which, list(&entries[..fewer])) {
+                    entries.truncate(fewer);
+                } else if self.with(which, list(&entries[width..])) {
+                    entries.drain(..width);
+                } else {
+                    break;
+                }
+                smaller = true;
             }
-            entries.truncate(fewer);
-            smaller = true;
+            width /= 2;
         }
         for i in 0..entries.len() {
             let mut at = 0;
@@ -118,15 +128,4 @@ impl Shrinking<'_> {
         }
         smaller
     }
-}
-
-/// The entries of a well-formed list.
-fn entries(bytes: &[u8]) -> Option<Vec<Vec<u8>>> {
-    let count = indexes::formed(bytes).ok()?;
-    (0..count)
-        .map(|i| {
-            let entry = indexes::entry(bytes, i).ok()?;
-            Some(bytes[entry.place..entry.place + entry.length].to_vec())
-        })
-        .collect()
 }

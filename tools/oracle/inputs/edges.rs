@@ -87,9 +87,8 @@ pub(super) fn triggers() -> Vec<Vec<u8>> {
         vec![0x8B; 4],
     ];
     triggers.last_mut().expect("there are some").push(0x0E);
-    let stem = [&[0x8B; 48][..], &[0x01]].concat();
-    triggers.push([&stem.repeat(4)[..], &[0x8B, 0x8B, 0x01]].concat());
-    triggers.push([&stem.repeat(4)[..], &[0x8B, 0x8B, 0x13]].concat());
+    triggers.push([&FULL_STEM.repeat(4)[..], &[0x8B, 0x8B, 0x01]].concat());
+    triggers.push([&FULL_STEM.repeat(4)[..], &[0x8B, 0x8B, 0x13]].concat());
     triggers
 }
 

@@ -1,6 +1,8 @@
 //! Whole fonts: those of the list, those too big or too many to store, and random ones.
 
-use super::case::{list, Case, Given, AMPLE, FIRST, GLOBAL, L, LOCAL, NONE, PLAIN, SECOND, STRICT, THIRD};
+use super::case::{
+    list, Case, Given, AMPLE, FIRST, GLOBAL, L, LOCAL, NONE, PLAIN, SECOND, STRICT, THIRD,
+};
 use super::damaged::hurt;
 use super::edges::{triggers, Ladder, BAD, MOST_STEMS};
 use super::flattening::{each_once, rows as charstrings};
@@ -118,12 +120,21 @@ impl Font {
 fn small() -> Vec<Font> {
     let mut fonts: Vec<Font> = charstrings()
         .into_iter()
-        .map(|Case { charstring, globals, locals }| Font { glyphs: vec![charstring], globals, locals })
+        .map(|Case { charstring, globals, locals }| Font {
+            glyphs: vec![charstring],
+            globals,
+            locals,
+        })
         .collect();
     fonts.push(Font::of(&[], NONE));
     fonts.push(Font::of(&[&[], &[], &[]], NONE));
-    let sound: [&[u8]; 5] =
-        [&[], &[FIRST, LOCAL, 0x0E], &[0x1C, 0x00, 0x05, 0x0E], &[0x0B, 0x00], &[0x8B, 0x8C, 0x13, 0x80, 0x0E]];
+    let sound: [&[u8]; 5] = [
+        &[],
+        &[FIRST, LOCAL, 0x0E],
+        &[0x1C, 0x00, 0x05, 0x0E],
+        &[0x0B, 0x00],
+        &[0x8B, 0x8C, 0x13, 0x80, 0x0E],
+    ];
     fonts.push(Font::of(&sound, L));
     fonts.push(Font::of(&[sound[1], sound[1]], L));
     fonts
@@ -248,7 +259,8 @@ fn long(count: usize, sum: u64) -> Font {
         match length.checked_sub(hinted).filter(|_| sum > FEWEST) {
             None => moves.times(length),
             Some(left) => {
-                [&hints[..], &masks.times(left / (MASK + 1)), &moves.times(left % (MASK + 1))].concat()
+                [&hints[..], &masks.times(left / (MASK + 1)), &moves.times(left % (MASK + 1))]
+                    .concat()
             }
         }
     };

@@ -14,8 +14,8 @@ use crate::operation::{library, Argument, Call, Fault, Found, Lent, Must, Next, 
 use crate::operation::{Outcome, Owed, Place, BARE};
 use crate::record::MOST;
 use crate::rules::flattening::Lists;
-use crate::rules::font::{self as rules, glyphs, Flats};
-use crate::rules::index::{formed, Flaw};
+use crate::rules::font::{self as rules, Flats};
+use crate::rules::index::{entries, formed, needed, Flaw};
 use std::borrow::Cow;
 use subsetter::Error;
 
@@ -112,8 +112,8 @@ fn invoke_on(call: &Call, lent: &Lent, charstrings: *const u8, size: usize) -> u
     let [glyph, tokens, entry, reason] = [1, 2, 3, 4].map(|which| lent.place(which));
     unsafe {
         ighzamrel_flatten_font(
-            charstrings, size, globals, globals_len, locals, locals_len, profile, budget, out, room,
-            length, glyph, tokens, entry, reason,
+            charstrings, size, globals, globals_len, locals, locals_len, profile, budget, out,
+            room, length, glyph, tokens, entry, reason,
         )
     }
 }
@@ -121,9 +121,8 @@ fn invoke_on(call: &Call, lent: &Lent, charstrings: *const u8, size: usize) -> u
 fn owed(call: &Call) -> Result<Owed, String> {
     let [charstrings, globals, locals] = call.slices.each_ref().map(|slice| &slice[..]);
     Kept::with([globals, locals], |kept| {
-        let flats = Lists::known(globals, locals, kept.formed).and_then(|lists| {
-            rules::flattened(lists, charstrings, call.strict(), call.budget)
-        });
+        let flats = Lists::known(globals, locals, kept.formed)
+            .and_then(|lists| rules::flattened(lists, charstrings, call.strict(), call.budget));
         let flats = match flats {
             Ok(flats) => flats,
             Err(bad) => return Ok(Owed::by_rule(bad_list(call.operation, bad))),
@@ -171,7 +170,7 @@ fn next<'a>(call: &'a Call<'a>, outcome: &'a Outcome) -> Vec<Next<'a>> {
 /// The first, a middle and the last entry of what is written are the flat strings of these glyphs; and a glyph that refuses does
 /// so by itself.
 fn glyph_by_glyph<'a>(call: &'a Call<'a>, outcome: &'a Outcome) -> Vec<Next<'a>> {
-    let glyphs = glyphs(&call.slices[0]).unwrap_or_default();
+    let glyphs = entries(&call.slices[0]).unwrap_or_default();
     let alone = |glyph: usize, room: usize, must: Must<'a>| {
         let call = Call { operation: &flatten::OPERATION, room, ..call.with(0, glyphs[glyph]) };
         Next { call, must, law: "a glyph by itself gives something else" }
@@ -180,7 +179,7 @@ fn glyph_by_glyph<'a>(call: &'a Call<'a>, outcome: &'a Outcome) -> Vec<Next<'a>>
         let told = stopped(outcome.answer, tokens as u32);
         return vec![alone(glyph as usize, 0, Must::Give(told))];
     }
-    let written = rules::glyphs(&outcome.bytes).unwrap_or_default();
+    let written = entries(&outcome.bytes).unwrap_or_default();
     let mut some = match written.len() {
         0 => Vec::new(),
         count => vec![0, count / 2, count - 1],
@@ -217,7 +216,7 @@ fn again<'a>(call: &'a Call<'a>, outcome: &'a Outcome) -> Vec<Next<'a>> {
 fn runs(call: &Call) -> Vec<(Result<u64, u32>, u32)> {
     let [charstrings, globals, locals] = call.slices.each_ref().map(|slice| &slice[..]);
     let lists = Lists::known(globals, locals, [globals, locals].map(formed));
-    let (Ok(lists), Ok(glyphs)) = (lists, glyphs(charstrings)) else { return Vec::new() };
+    let (Ok(lists), Ok(glyphs)) = (lists, entries(charstrings)) else { return Vec::new() };
     let run = |glyph| {
         let ran = lists.run(glyph, call.strict(), call.budget);
         (ran.flat.map(|flat| flat.length()), ran.tokens)
@@ -258,7 +257,7 @@ fn last_decides(call: &Call, lent: &Lent) -> u32 {
 fn length_first(call: &Call, lent: &Lent) -> u32 {
     let runs = runs(call);
     let sum = runs.iter().filter_map(|(flat, _)| flat.ok()).sum();
-    match crate::rules::index::needed(runs.len(), sum) {
+    match needed(runs.len(), sum) {
         Err(refusal) => refusal,
         Ok(length) if length > lent.room as u64 && !runs.is_empty() => {
             set(lent, 0, length as usize);
@@ -282,7 +281,7 @@ fn charstrings_first(call: &Call, lent: &Lent) -> u32 {
 }
 
 fn last_left_out(call: &Call, lent: &Lent) -> u32 {
-    match glyphs(&call.slices[0]).unwrap_or_default().split_last() {
+    match entries(&call.slices[0]).unwrap_or_default().split_last() {
         Some((_, others)) => {
             let fewer = list(others);
             invoke_on(call, lent, fewer.as_ptr(), fewer.len())
@@ -293,7 +292,7 @@ fn last_left_out(call: &Call, lent: &Lent) -> u32 {
 
 fn offsets_from_0(call: &Call, lent: &Lent) -> u32 {
     let answer = library(call, lent);
-    let count = glyphs(&call.slices[0]).map_or(0, |glyphs| glyphs.len());
+    let count = entries(&call.slices[0]).map_or(0, |glyphs| glyphs.len());
     if answer == 0 && count > 0 {
         // SAFETY: an INDEX with entries was written.
         let written = unsafe { std::slice::from_raw_parts_mut(lent.out, lent.size(0)) };
@@ -337,7 +336,7 @@ fn past_bytes(call: &Call, lent: &Lent) -> u32 {
 
 fn past_glyphs(call: &Call, lent: &Lent) -> u32 {
     let answer = library(call, lent);
-    if answer == 0 && glyphs(&call.slices[0]).is_ok_and(|glyphs| glyphs.len() > 4096) {
+    if answer == 0 && entries(&call.slices[0]).is_ok_and(|glyphs| glyphs.len() > 4096) {
         set(lent, 0, lent.size(0) - 1);
     }
     answer

@@ -19,7 +19,7 @@ pub fn flattened<'a>(
     budget: u32,
 ) -> Result<Flats<'a>, (Refusal, Flaw)> {
     let mut flats = Flats { strings: Vec::new(), stopped: None };
-    for glyph in glyphs(charstrings).map_err(|flaw| (26, flaw))? {
+    for glyph in indexes::entries(charstrings).map_err(|flaw| (26, flaw))? {
         let ran = lists.run(glyph, strict, budget);
         match ran.flat {
             Ok(flat) => flats.strings.push(flat),
@@ -30,15 +30,6 @@ pub fn flattened<'a>(
         }
     }
     Ok(flats)
-}
-
-/// The entries of a well-formed list, or what is wrong with it.
-pub fn glyphs(list: &[u8]) -> Result<Vec<&[u8]>, Flaw> {
-    let part = |i| {
-        let entry = indexes::entry(list, i).expect("the list is well formed");
-        &list[entry.place..entry.place + entry.length]
-    };
-    Ok((0..indexes::formed(list)?).map(part).collect())
 }
 
 impl Flats<'_> {

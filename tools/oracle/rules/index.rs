@@ -97,6 +97,15 @@ pub fn formed(bytes: &[u8]) -> Result<u32, Flaw> {
     }
 }
 
+/// The entries of a well-formed list, or what is wrong with it.
+pub fn entries(bytes: &[u8]) -> Result<Vec<&[u8]>, Flaw> {
+    let part = |i| {
+        let entry = entry(bytes, i).expect("the list is well formed");
+        &bytes[entry.place..entry.place + entry.length]
+    };
+    Ok((0..formed(bytes)?).map(part).collect())
+}
+
 /// All that is wrong with a list, in the order of its entries.
 pub fn flaws(bytes: &[u8]) -> impl Iterator<Item = Flaw> + '_ {
     let unread = read(bytes).err();
