@@ -3,7 +3,7 @@
 //!     0       which operation, by its place among them
 //!     1       flags, as below
 //!     2       a number that is added to the others' sum; see `may_be_long`
-//!     3, 4    the budget, modulo 5000; where it may be long, as it is, and from FFF0 on 150000; a tenth of it for each glyph of a font
+//!     3, 4    the budget, modulo 5000; where it may be long, as it is, and from FFF0 on 150000; of a font, a tenth of that
 //!     5, 6    the room, modulo 600; from FFF0 on, 40000
 //!     7..10   a value
 //!     11..14  a number
@@ -69,14 +69,7 @@ pub fn call(bytes: &[u8]) -> Call<'static> {
         call.kind = odd(FIXED, 0x0101_0100);
     }
     call.profile = odd(STRICT, 0x8000_0000);
-    call.budget = match word(&head[3..5]) {
-        budget if !long => budget % 5000,
-        budget if budget < 0xFFF0 => budget,
-        _ => AMPLE,
-    };
-    if takes_font(operation) {
-        call.budget /= 10;
-    }
+    call.budget = budget(operation, word(&head[3..5]), long);
     call.room = match word(&head[5..7]) as usize {
         room if room < 0xFFF0 => room % 600,
         _ => WIDE,
@@ -92,6 +85,24 @@ pub fn call(bytes: &[u8]) -> Call<'static> {
     };
     fill(&mut call, slices, flags, long);
     call
+}
+
+fn budget(operation: &Operation, said: u32, long: bool) -> u32 {
+    let budget = match said {
+        _ if !long => said % 5000,
+        0..0xFFF0 => said,
+        _ => AMPLE,
+    };
+    budget / glyphs(operation)
+}
+
+/// Among how many glyphs the budget is shared out.
+fn glyphs(operation: &Operation) -> u32 {
+    if takes_font(operation) {
+        10
+    } else {
+        1
+    }
 }
 
 fn fill(call: &mut Call, slices: [&[u8]; 3], flags: u8, long: bool) {
@@ -196,7 +207,7 @@ fn seed(call: &Call) -> Option<Vec<u8>> {
     let [last, middle, first] = order.map(|i| &call.slices[i][..]);
     let flags = if call.strict() { STRICT } else { 0 } | if call.fixed() { FIXED } else { 0 };
     let mut seed = vec![place as u8, flags, 0];
-    let budget = call.budget.saturating_mul(if takes_font(call.operation) { 10 } else { 1 });
+    let budget = call.budget.saturating_mul(glyphs(call.operation));
     seed.extend((budget.min(4999) as u16).to_be_bytes());
     seed.extend((call.room.min(599) as u16).to_be_bytes());
     seed.extend(call.value.to_be_bytes());

@@ -4,7 +4,7 @@ use super::case::{
     list, Case, Given, AMPLE, FIRST, GLOBAL, L, LOCAL, NONE, PLAIN, SECOND, STRICT, THIRD,
 };
 use super::damaged::hurt;
-use super::edges::{triggers, Ladder, BAD, MOST_STEMS};
+use super::edges::{plain_hints, triggers, Ladder, BAD, MOST_STEMS};
 use super::flattening::{each_once, rows as charstrings};
 use super::index::{any_bytes, flawed, laid, rows};
 use super::loose::FULL_STEM;
@@ -25,7 +25,7 @@ pub struct Font {
 const KEPT_BYTES: u64 = 49_152;
 const KEPT_GLYPHS: usize = 4096;
 
-/// The last offsets at which the next size begins, and the largest that there is.
+/// The largest last offset of each size.
 const BOUNDS: [u64; 4] = [255, 65_535, 16_777_215, 4_294_967_295];
 
 /// Those of the list, each once.
@@ -161,12 +161,26 @@ fn refused() -> Vec<Given> {
             asked.push(font(&glyphs).case().ample(PLAIN));
         }
     }
-    for glyphs in [[0, 1, 2], [1, 0, 2], [1, 2, 0], [1, 1, 1]] {
+    for glyphs in [[1, 0, 0], [0, 1, 0], [0, 0, 1], [1, 2, 1]] {
         let case = font(&glyphs.map(|i| sound[i])).case();
-        asked.extend((0..=7).map(|budget| case.asked(STRICT, budget, 4096)));
+        for budget in 0..=7 {
+            asked.extend([PLAIN, STRICT].map(|profile| case.asked(profile, budget, 4096)));
+        }
         asked.push(case.asked(PLAIN, 3, 0));
     }
+    asked.extend(plain_hints(0).iter().flat_map(most_hints));
     asked
+}
+
+/// A charstring of about as many hints as there may be in plain as the first, a middle and the last glyph, where it has no mask.
+fn most_hints(given: &Given) -> Vec<Given> {
+    let Case { charstring, locals, .. } = &given.case;
+    let fonts = (0..3).filter(|_| charstring.len() < 1000).map(|at| {
+        let mut glyphs: [&[u8]; 3] = [&[0x0E]; 3];
+        glyphs[at] = charstring;
+        Font::of(&glyphs, locals).case().asked(PLAIN, AMPLE, 0)
+    });
+    fonts.collect()
 }
 
 /// 1, 2 and 26: each list bad in each way, and each two and all three of them, by flaws of their own.

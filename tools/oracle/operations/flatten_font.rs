@@ -145,7 +145,7 @@ fn told(flats: &Flats, room: usize) -> Outcome {
     match flats.needed() {
         Err(refusal) => Outcome::refused(refusal),
         Ok(length) if length > room as u64 => Outcome::told(13, [length as i64], Vec::new()),
-        Ok(length) => Outcome::told(0, [length as i64], flats.written().unwrap_or_default()),
+        Ok(length) => Outcome::told(0, [length as i64], flats.written()),
     }
 }
 
@@ -154,7 +154,7 @@ fn by_rust(flats: &Flats) -> Option<Result<Vec<u8>, Error>> {
     match flats.stopped {
         _ if flats.sum() > HELD => None,
         Some((refusal, _)) => error(refusal).map(Err),
-        None => flats.written().ok().map(Ok),
+        None => Some(Ok(flats.written())),
     }
 }
 

@@ -43,10 +43,10 @@ impl Flats<'_> {
         indexes::needed(self.strings.len(), self.sum())
     }
 
-    /// Their INDEX, where there is one.
-    pub fn written(&self) -> Result<Vec<u8>, Refusal> {
+    /// Their INDEX, which there has to be.
+    pub fn written(&self) -> Vec<u8> {
         let strings: Vec<Vec<u8>> = self.strings.iter().map(Flat::joined).collect();
         let lengths: Vec<u32> = strings.iter().map(|string| string.len() as u32).collect();
-        indexes::written(&lengths, &strings.concat())
+        indexes::written(&lengths, &strings.concat()).expect("an INDEX holds them")
     }
 }
