@@ -21,7 +21,7 @@ pub struct Font {
     pub locals: Vec<u8>,
 }
 
-/// What the flat strings of a call may have together, and how many there may be, for each glyph to be run just once.
+/// How many bytes of flat strings, and how many lengths, a call keeps, so that it runs each glyph just once.
 const KEPT_BYTES: u64 = 49_152;
 const KEPT_GLYPHS: usize = 4096;
 
@@ -44,8 +44,8 @@ pub fn beyond(most: usize) -> Vec<Given> {
     vec![case.ample(2), case.asked(PLAIN, 1, most + 1)]
 }
 
-/// Too big to store: 65,535 glyphs, written out; flat strings of a length at each bound, written out. Too many: every font of up
-/// to four of these glyphs.
+/// Too big to store: 65,535 glyphs, and as many bytes and glyphs as a call keeps, written out. Too many: every font of up to four
+/// of these glyphs.
 pub fn more() -> Vec<Given> {
     let glyphs: [&[u8]; 8] = [
         &[],
@@ -66,10 +66,9 @@ pub fn more() -> Vec<Given> {
     for (glyph, length) in [(&[][..], 0), (&[0x15], 1), (&[FIRST, LOCAL, 0x0E], 4)] {
         asked.push(Font::of(&vec![glyph; 65_535], L).whole(65_535 * length));
     }
-    for sum in [2048, KEPT_BYTES, BOUNDS[1] - 1].into_iter().flat_map(|n| [n, n + 1]) {
-        asked.extend([1, 2, 7].map(|count| long(count, sum).whole(sum)));
+    for sum in [2048, KEPT_BYTES].into_iter().flat_map(|sum| [sum, sum + 1]) {
+        asked.extend([1, 7].map(|count| long(count, sum).whole(sum)));
     }
-    asked.extend([BOUNDS[2] - 1, BOUNDS[2]].map(|sum| long(2, sum).whole(sum)));
     asked.extend(many());
     asked
 }
@@ -212,7 +211,8 @@ fn laid_out() -> Vec<Given> {
     asked
 }
 
-/// A last offset on both sides of each bound; as much, and as many glyphs, as are run just once, and one more.
+/// A last offset on both sides of each bound, into no room, so that the list stays small: just the room follows from 13. As many
+/// bytes and glyphs as a call keeps, and one more.
 fn at_bounds() -> Vec<Given> {
     let mut asked = Vec::new();
     for sum in BOUNDS.into_iter().flat_map(|bound| [bound - 1, bound]) {
@@ -221,12 +221,12 @@ fn at_bounds() -> Vec<Given> {
             asked.push(font.case().asked(PLAIN, u32::MAX, if sum < 256 { 4096 } else { 0 }));
         }
     }
-    let short = |count: usize, sum: u64| needed(count, sum).unwrap_or(1) as usize - 1;
-    asked.push(long(3, KEPT_BYTES).case().asked(PLAIN, AMPLE, short(3, KEPT_BYTES)));
-    asked.push(long(3, KEPT_BYTES + 1).case().asked(STRICT, AMPLE, 1 << 16));
+    let kept = long(3, KEPT_BYTES).whole(KEPT_BYTES);
+    asked.push(Given { room: kept.room - 1, ..kept });
+    let more = long(3, KEPT_BYTES + 1).whole(KEPT_BYTES + 1);
+    asked.push(Given { profile: STRICT, ..more });
     for count in [KEPT_GLYPHS, KEPT_GLYPHS + 1] {
-        let font = Font::of(&vec![&[][..]; count], NONE);
-        asked.push(font.case().asked(PLAIN, 0, short(count, 0) + 1));
+        asked.push(Font::of(&vec![&[][..]; count], NONE).whole(0));
     }
     // too much for an INDEX, where a glyph is refused; and one glyph alone that has as much
     for at in [1, 2] {
@@ -238,8 +238,8 @@ fn at_bounds() -> Vec<Given> {
     asked
 }
 
-/// As many glyphs as are run just once, and one more, whose flat strings are on both sides of as much as is kept; the last of
-/// them refused, too.
+/// As many glyphs as a call keeps, and one more, with flat strings on both sides of as many bytes as it keeps; and with the last one
+/// refused.
 fn many() -> Vec<Given> {
     let mut asked = Vec::new();
     for count in [KEPT_GLYPHS, KEPT_GLYPHS + 1] {
