@@ -14,7 +14,6 @@ use crate::rules::flattening::{flattened, Asked, Verdict};
 use crate::rules::index::needed;
 
 /// Charstrings that share two lists.
-#[derive(Clone)]
 pub struct Font {
     pub glyphs: Vec<Vec<u8>>,
     pub globals: Vec<u8>,
@@ -318,7 +317,7 @@ fn change(list: &mut Vec<u8>, random: &mut Random) {
     }
 }
 
-/// Around a bound of the offsets or of what is kept; now and then too much for an INDEX; at times with a glyph that is refused.
+/// Around a bound of the offsets or of what is kept; now and then too much for an INDEX; at times with a glyph that mostly is refused.
 fn any_long(random: &mut Random) -> Font {
     let near = random.within(0, 2) as u64;
     let mut font = match random.within(0, 9) {
