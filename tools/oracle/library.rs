@@ -8,24 +8,6 @@ pub use ffi::c::*;
 pub use ffi::{flatten_to, Places};
 
 extern "C" {
-    pub fn ighzamrel_flatten_font(
-        charstrings: *const u8,
-        charstrings_len: usize,
-        globals: *const u8,
-        globals_len: usize,
-        locals: *const u8,
-        locals_len: usize,
-        profile: u32,
-        budget: u32,
-        out: *mut u8,
-        out_len: usize,
-        length: *mut usize,
-        glyph: *mut u32,
-        tokens: *mut u32,
-        entry: *mut u32,
-        reason: *mut u32,
-    ) -> u32;
-
     pub fn tried_callee(kind: u32, value: i32, profile: u32, count: u32, entry: *mut u32) -> u32;
     pub fn tried_view_length(bytes: *const u8, size: usize, number: u32) -> usize;
     pub fn tried_view_byte(bytes: *const u8, size: usize, number: u32, at: usize) -> u8;
