@@ -1,5 +1,5 @@
-// The operation over the crate charstring, under the arguments that it takes, and the line of its
-// answer.
+// The operations over the crates charstring and font, under the arguments that both take, and the
+// lines of their answers.
 use crate::arguments::Flag;
 use crate::arguments::bytes_at;
 use crate::arguments::flag_at;
@@ -9,12 +9,14 @@ use crate::arguments::word_at;
 use crate::indexes::entry_of;
 use crate::line::Line;
 use crate::room::fill;
+use font::FontFlattened;
 use index::Flaw;
 use reading::Flattened;
 use reading::Profile;
 
-// 8: profile, budget, room, charstring, globals, locals.
-pub(crate) fn flatten(args: &[u8], room: &mut [u8]) -> Line {
+// 8: profile, budget, room, charstring, globals, locals. 33: the same of a `whole` font, with its
+// CharStrings INDEX in the charstring's place.
+pub(crate) fn flatten(args: &[u8], whole: bool, room: &mut [u8]) -> Line {
     if !shaped(args, 9, 3) {
         return Line::unasked();
     }
@@ -27,15 +29,16 @@ pub(crate) fn flatten(args: &[u8], room: &mut [u8]) -> Line {
     }
     let lent = &mut room[0..size];
     fill(lent);
-    let globals = past_bytes(args, 9);
-    let answer = charstring::flatten(
-        bytes_at(args, 9),
-        bytes_at(args, globals),
-        bytes_at(args, past_bytes(args, globals)),
-        profile(strict),
-        word_at(args, 1),
-        lent,
-    );
+    let budget = word_at(args, 1);
+    let second = past_bytes(args, 9);
+    let strings = bytes_at(args, 9);
+    let globals = bytes_at(args, second);
+    let locals = bytes_at(args, past_bytes(args, second));
+    if whole {
+        let answer = font::flatten_font(strings, globals, locals, profile(strict), budget, lent);
+        return font_flattened(answer, lent);
+    }
+    let answer = charstring::flatten(strings, globals, locals, profile(strict), budget, lent);
     flattened(answer, lent)
 }
 
@@ -57,6 +60,22 @@ fn flattened(answer: Flattened, room: &[u8]) -> Line {
         Flattened::BadLocals(flaw) => flawed(flaw, line).keeps(room),
         Flattened::Refused(_, tokens) => line.value(tokens as u64).keeps(room),
         Flattened::NoRoom(n, tokens) => line.value(n as u64).value(tokens as u64).keeps(room),
+    }
+}
+
+// `0 N HEX`; `9 GLYPH TOKENS`; 26 as 1 and 2.
+fn font_flattened(answer: FontFlattened, room: &[u8]) -> Line {
+    let line = Line::of(answer.number());
+    match answer {
+        FontFlattened::Written(n) => line.value(n as u64).shows(n, room),
+        FontFlattened::BadGlobals(flaw) => flawed(flaw, line).keeps(room),
+        FontFlattened::BadLocals(flaw) => flawed(flaw, line).keeps(room),
+        FontFlattened::BadCharstrings(flaw) => flawed(flaw, line).keeps(room),
+        FontFlattened::Refused(glyph, _, tokens) => {
+            line.value(glyph as u64).value(tokens as u64).keeps(room)
+        }
+        FontFlattened::TooLong => line.keeps(room),
+        FontFlattened::NoRoom(n) => line.value(n as u64).keeps(room),
     }
 }
 

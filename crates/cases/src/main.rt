@@ -85,11 +85,12 @@ fn answer(asked: &[u8], lengths: &mut [u32], room: &mut [u8]) -> Line {
         5 => indexes::read_index(args),
         6 => indexes::read_entry(args, room),
         7 => indexes::write_index(args, lengths, room),
-        8 => flattening::flatten(args, room),
+        8 => flattening::flatten(args, false, room),
         9 => numbers::call_index(args),
         10 => numbers::callee(args),
         11 => indexes::check_list(args),
         12 => indexes::read_entry_by_view(args, room),
+        33 => flattening::flatten(args, true, room),
         _ => Line::unasked(),
     }
 }
