@@ -1,6 +1,7 @@
 // What came of a font part: the answer's number and its values, and a sentence.
 use crate::hex::write_hex;
 use crate::part::Reply;
+use font::FontFlattened;
 use index::Absence;
 use index::Flaw;
 use libc::STDERR_FILENO;
@@ -12,6 +13,7 @@ use reading::Refusal;
 pub(crate) fn tell(reply: Reply, size: usize, room: &[u8]) {
     match reply {
         Reply::Flattened(flattened) => tell_flattened(flattened, room),
+        Reply::Font(flattened) => tell_font(flattened, room),
         Reply::Headless => {
             tell_form(size);
             io::write_all(STDERR_FILENO, b", fewer than the three lengths take");
@@ -38,7 +40,11 @@ fn tell_form(size: usize) {
 fn tell_expected() {
     io::write_all(
         STDERR_FILENO,
-        b". Expected: three lengths of four bytes, the highest byte first, and then the charstring, the global list and the local list, and nothing more.\n",
+        b". Expected: three lengths of four bytes, the highest byte first, and then the charstring, or with --font the CharStrings INDEX, ",
+    );
+    io::write_all(
+        STDERR_FILENO,
+        b"the global list and the local list, and nothing more.\n",
     );
 }
 
@@ -55,10 +61,26 @@ fn tell_flattened(flattened: Flattened, room: &[u8]) {
     count(flattened.number() as u64);
     match flattened {
         Flattened::Accepted(n, tokens) => tell_accepted(n, tokens, room),
-        Flattened::BadGlobals(flaw) => tell_bad(flaw, b": the global list's "),
-        Flattened::BadLocals(flaw) => tell_bad(flaw, b": the local list's "),
+        Flattened::BadGlobals(flaw) => tell_bad_globals(flaw),
+        Flattened::BadLocals(flaw) => tell_bad_locals(flaw),
         Flattened::Refused(refusal, tokens) => tell_refusal(refusal, tokens),
         Flattened::NoRoom(n, tokens) => tell_short(n, tokens),
+    }
+}
+
+// The line of a whole font's.
+fn tell_font(flattened: FontFlattened, room: &[u8]) {
+    count(flattened.number() as u64);
+    match flattened {
+        FontFlattened::Written(n) => tell_written(n, room),
+        FontFlattened::BadGlobals(flaw) => tell_bad_globals(flaw),
+        FontFlattened::BadLocals(flaw) => tell_bad_locals(flaw),
+        FontFlattened::BadCharstrings(flaw) => tell_bad(flaw, b": the CharStrings INDEX's "),
+        FontFlattened::Refused(glyph, refusal, tokens) => tell_glyph(glyph, refusal, tokens),
+        FontFlattened::TooLong => say(
+            b": an INDEX to be written has a last offset over 4294967295\n",
+        ),
+        FontFlattened::NoRoom(n) => tell_short_font(n),
     }
 }
 
@@ -66,11 +88,30 @@ fn tell_flattened(flattened: Flattened, room: &[u8]) {
 fn tell_accepted(n: usize, tokens: u32, room: &[u8]) {
     say_value(n as u64);
     say_value(tokens as u64);
+    tell_bytes(n, room);
+}
+
+// The length, and the INDEX on the next line.
+fn tell_written(n: usize, room: &[u8]) {
+    say_value(n as u64);
+    tell_bytes(n, room);
+}
+
+// The line's end, and the first n bytes of the room on the next.
+fn tell_bytes(n: usize, room: &[u8]) {
     say(b"\n");
     if n <= room.len() {
         write_hex(&room[0..n]);
     }
     say(b"\n");
+}
+
+fn tell_bad_globals(flaw: Flaw) {
+    tell_bad(flaw, b": the global list's ");
+}
+
+fn tell_bad_locals(flaw: Flaw) {
+    tell_bad(flaw, b": the local list's ");
 }
 
 // The entry and the reason, or the reason alone; whose they are, and what is wrong with the list.
@@ -102,14 +143,37 @@ fn tell_absence(i: u32, why: Absence) {
 fn tell_short(n: usize, tokens: u32) {
     say_value(n as u64);
     say_value(tokens as u64);
+    say_short(n);
+}
+
+fn tell_short_font(n: usize) {
+    say_value(n as u64);
+    say_short(n);
+}
+
+fn say_short(n: usize) {
     say(b": the result is longer than the room for it: it has ");
     count(n as u64);
     say(b" bytes, and the room 1048576\n");
 }
 
-// The tokens, and a sentence that ends in them.
+// The tokens, and the sentence.
 fn tell_refusal(refusal: Refusal, tokens: u32) {
     say_value(tokens as u64);
+    say_refusal(refusal, tokens);
+}
+
+// The glyph and the tokens, and the sentence behind the glyph.
+fn tell_glyph(glyph: u32, refusal: Refusal, tokens: u32) {
+    say_value(glyph as u64);
+    say_value(tokens as u64);
+    say(b": glyph ");
+    count(glyph as u64);
+    say_refusal(refusal, tokens);
+}
+
+// A refusal's sentence, which ends in the tokens.
+fn say_refusal(refusal: Refusal, tokens: u32) {
     match refusal {
         Refusal::BudgetSpent => say(b": the budget is spent after token "),
         Refusal::BytesLacking => say(b": a number, an operator or a mask lacks bytes, at token "),

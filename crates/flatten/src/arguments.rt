@@ -1,4 +1,4 @@
-// The program's arguments: `--strict`, `--budget N` and the name of a file, in any order.
+// The program's arguments: `--font`, `--strict`, `--budget N` and the name of a file, in any order.
 use check::same;
 use libc::STDERR_FILENO;
 use reading::Profile;
@@ -8,6 +8,8 @@ const BUDGET: u32 = 1000000;
 
 // What was asked for.
 pub(crate) struct Asked {
+    // Whether the input is a whole font's.
+    pub(crate) whole: bool,
     pub(crate) profile: Profile,
     pub(crate) budget: u32,
     // The number of the argument that names the file, or 0 for standard input.
@@ -33,6 +35,7 @@ enum Spelled {
 pub(crate) fn read_arguments() -> Arguments {
     let count = os::arg_count();
     let mut asked = Asked {
+        whole: false,
         profile: Profile::Plain,
         budget: BUDGET,
         file: 0,
@@ -78,6 +81,10 @@ fn take_word(mut asked: Asked, i: usize, word: &[u8]) -> Arguments {
     if same(word, b"--strict") {
         return Arguments::Asked(strictly(asked));
     }
+    if same(word, b"--font") {
+        asked.whole = true;
+        return Arguments::Asked(asked);
+    }
     if same(word, b"--budget") {
         asked.waits = true;
         return Arguments::Asked(asked);
@@ -94,6 +101,7 @@ fn take_word(mut asked: Asked, i: usize, word: &[u8]) -> Arguments {
 
 fn strictly(asked: Asked) -> Asked {
     Asked {
+        whole: asked.whole,
         profile: Profile::Strict,
         budget: asked.budget,
         file: asked.file,
@@ -147,10 +155,14 @@ pub(crate) fn tell_wrong(i: usize) {
     io::write_all(STDERR_FILENO, &word[..n]);
     io::write_all(
         STDERR_FILENO,
-        b"` is not understood. Expected: flatten [--strict] [--budget N] [FILE], ",
+        b"` is not understood. Expected: flatten [--font] [--strict] [--budget N] [FILE], ",
     );
     io::write_all(
         STDERR_FILENO,
-        b"where N is a number of tokens, at most 4294967295; without FILE the font part comes on standard input.\n",
+        b"where N is a number of tokens, at most 4294967295; without FILE the font part comes on standard input. ",
+    );
+    io::write_all(
+        STDERR_FILENO,
+        b"With --font it is a whole font's. It has at most 1048576 bytes, and so has the result.\n",
     );
 }

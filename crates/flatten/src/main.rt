@@ -1,5 +1,5 @@
-// Flattens one glyph: a font part in, from standard input or a named file, and its flat string or its
-// refusal out, in a line that a person can read. What is no font part, or is asked wrongly, is said
+// Flattens one glyph or a whole font: a font part in, from standard input or a named file, and its
+// flat string, or the INDEX of all, or its refusal out, in a line that a person can read. What is no font part, or is asked wrongly, is said
 // on standard error, and nothing is then written to standard output: a program of Rattle has no exit
 // status to say it by.
 mod answer;
@@ -70,11 +70,11 @@ fn answer_from(fd: i32, name: &[u8], asked: Asked) {
 fn answer_part(part: &[u8], asked: Asked) {
     let mut room = mebibyte();
     let profile = asked.profile;
-    let reply = flatten_part(part, profile, asked.budget, &mut room);
+    let reply = flatten_part(part, asked.whole, profile, asked.budget, &mut room);
     tell(reply, part.len(), &room);
 }
 
-// 1,048,576 zeros: the limit of the input and that of the flat string. They stand on the stack. The
+// 1,048,576 zeros: the limit of the input and that of the result. They stand on the stack. The
 // `ensures` gives only the length, which lending the array as a slice needs.
 fn mebibyte() -> [u8; 1048576]
     ensures { λ r. ⌜ 1048576 ≡ length r ⌝ }

@@ -1,25 +1,37 @@
-// A font part: three lengths of four bytes, the highest byte first, and then the charstring, the
-// global list and the local list, which are so long.
+// A font part: three lengths of four bytes, the highest byte first, and then the charstring, or a
+// whole font's CharStrings INDEX, the global list and the local list, which are so long.
 use charstring::flatten;
+use font::FontFlattened;
+use font::flatten_font;
 use number::Big;
 use reading::Flattened;
 use reading::Profile;
 ghost use mathlib.Core.Path.{_≡_};
 ghost use Rattle.number.specs.Answer.{leaving};
 ghost use Rattle.reading.specs.Rules.{rulesOf};
-ghost use Rattle.flatten.specs.Part.{partOf, toldBy};
+ghost use Rattle.flatten.specs.Part.{partOf, toldOf, toldBy};
 
 pub(crate) enum Reply {
+    // Of a charstring.
     Flattened(Flattened),
+    // Of a whole font.
+    Font(FontFlattened),
     // No font part: it has fewer bytes than the three lengths take.
     Headless,
     // No font part: by its lengths it would have so many bytes.
     Says(usize),
 }
 
-// Flattens the charstring of a font part into the start of room.
-pub(crate) fn flatten_part(part: &[u8], profile: Profile, budget: u32, room: &mut [u8]) -> Reply
-    ensures { λ r. ⌜ leaving (toldBy r) (now (room .exit)) ≡ partOf (rulesOf profile) (now (part .entry)) budget (now (room .entry)) ⌝ }
+// Flattens the charstring of a font part, or the `whole` font, into the start of room.
+pub(crate) fn flatten_part(
+    part: &[u8],
+    whole: bool,
+    profile: Profile,
+    budget: u32,
+    room: &mut [u8],
+) -> Reply
+    ensures { λ r. ⌜ leaving (toldBy r) (now (room .exit))
+        ≡ partOf (toldOf whole (rulesOf profile) budget (now (room .entry))) (now (part .entry)) (now (room .entry)) ⌝ }
 {
     let Big::Value(charstring) = number::read_be(part, 0, 4) else {
         return Reply::Headless;
@@ -36,12 +48,32 @@ pub(crate) fn flatten_part(part: &[u8], profile: Profile, budget: u32, room: &mu
     if end != part.len() {
         return Reply::Says(end);
     }
-    Reply::Flattened(flatten(
+    flatten_cut(
         &part[12..globals],
         &part[globals..locals],
         &part[locals..end],
+        whole,
         profile,
         budget,
         room,
-    ))
+    )
+}
+
+// The same of the three parts, cut.
+fn flatten_cut<'a>(
+    strings: &'a [u8],
+    globals: &'a [u8],
+    locals: &'a [u8],
+    whole: bool,
+    profile: Profile,
+    budget: u32,
+    room: &mut [u8],
+) -> Reply
+    ensures { λ r. ⌜ leaving (toldBy r) (now (room .exit))
+        ≡ toldOf whole (rulesOf profile) budget (now (room .entry)) (now (strings .entry)) (now (globals .entry)) (now (locals .entry)) ⌝ }
+{
+    if whole {
+        return Reply::Font(flatten_font(strings, globals, locals, profile, budget, room));
+    }
+    Reply::Flattened(flatten(strings, globals, locals, profile, budget, room))
 }

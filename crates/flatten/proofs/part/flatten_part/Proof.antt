@@ -17,7 +17,7 @@ enum-told : tie.Need-enum-told
 enum-told c = search needs
 
 returns : tie.Need-returns
-returns c = length-lacks _ _ _ _ 0 (omega arith) (sym (c .enum-told .given .1) ∙ c .before .before .read-be .ensures)
+returns c = length-lacks _ _ _ 0 (omega arith) (sym (c .enum-told .given .1) ∙ c .before .before .read-be .ensures)
 
 read-be-requires-2 : tie.Need-read-be-requires-2
 read-be-requires-2 c κs = search needs
@@ -29,7 +29,7 @@ enum-told-2 : tie.Need-enum-told-2
 enum-told-2 c = search needs
 
 returns-2 : tie.Need-returns-2
-returns-2 c = length-lacks _ _ _ _ 4 (omega arith) (sym (c .enum-told2 .given .1) ∙ c .before .before .read-be2 .ensures)
+returns-2 c = length-lacks _ _ _ 4 (omega arith) (sym (c .enum-told2 .given .1) ∙ c .before .before .read-be2 .ensures)
 
 read-be-requires-3 : tie.Need-read-be-requires-3
 read-be-requires-3 c κs = search needs
@@ -41,7 +41,7 @@ enum-told-3 : tie.Need-enum-told-3
 enum-told-3 c = search needs
 
 returns-3 : tie.Need-returns-3
-returns-3 c = length-lacks _ _ _ _ 8 (omega arith) (sym (c .enum-told3 .given .1) ∙ c .before .before .read-be3 .ensures)
+returns-3 c = length-lacks _ _ _ 8 (omega arith) (sym (c .enum-told3 .given .1) ∙ c .before .before .read-be3 .ensures)
 
 cast-globals : tie.Need-cast-globals
 cast-globals c = search needs
@@ -66,41 +66,41 @@ returns-4 c =
     let at-local = c .before .before in
     let at-global = at-local .before .before .before .before in
     let at-charstring = at-global .before .before .before .before in
-    says-other _ _ _ _ _ _ _
+    says-other _ _ _ _ _ _
     (sym (at-charstring .charstring .given .1) ∙ at-charstring .before .before .read-be .ensures)
     (sym (at-global .global .given .1) ∙ at-global .before .before .read-be2 .ensures)
     (sym (at-local .local .given .1) ∙ at-local .before .before .read-be3 .ensures)
     (ne-eqb _ _ (c .if1 .taken))
 
-sub-flatten : tie.Need-sub-flatten
-sub-flatten c = search needs
+sub-flatten-cut : tie.Need-sub-flatten-cut
+sub-flatten-cut c = search needs
 
-part-flatten-start : tie.Need-part-flatten-start
-part-flatten-start c = search needs
+part-flatten-cut-start : tie.Need-part-flatten-cut-start
+part-flatten-cut-start c = search needs
 
-part-flatten-end : tie.Need-part-flatten-end
-part-flatten-end c = search needs
+part-flatten-cut-end : tie.Need-part-flatten-cut-end
+part-flatten-cut-end c = search needs
 
-sub-flatten-2 : tie.Need-sub-flatten-2
-sub-flatten-2 c = search needs
+sub-flatten-cut-2 : tie.Need-sub-flatten-cut-2
+sub-flatten-cut-2 c = search needs
 
-part-flatten-start-2 : tie.Need-part-flatten-start-2
-part-flatten-start-2 c = search needs
+part-flatten-cut-start-2 : tie.Need-part-flatten-cut-start-2
+part-flatten-cut-start-2 c = search needs
 
-part-flatten-end-2 : tie.Need-part-flatten-end-2
-part-flatten-end-2 c = search needs
+part-flatten-cut-end-2 : tie.Need-part-flatten-cut-end-2
+part-flatten-cut-end-2 c = search needs
 
-sub-flatten-3 : tie.Need-sub-flatten-3
-sub-flatten-3 c = search needs
+sub-flatten-cut-3 : tie.Need-sub-flatten-cut-3
+sub-flatten-cut-3 c = search needs
 
-part-flatten-start-3 : tie.Need-part-flatten-start-3
-part-flatten-start-3 c = search needs
+part-flatten-cut-start-3 : tie.Need-part-flatten-cut-start-3
+part-flatten-cut-start-3 c = search needs
 
-part-flatten-end-3 : tie.Need-part-flatten-end-3
-part-flatten-end-3 c = search needs
+part-flatten-cut-end-3 : tie.Need-part-flatten-cut-end-3
+part-flatten-cut-end-3 c = search needs
 
-flatten-requires : tie.Need-flatten-requires
-flatten-requires c κs = search needs
+flatten-cut-requires : tie.Need-flatten-cut-requires
+flatten-cut-requires c κs = search needs
 
 same-length : tie.Need-same-length
 same-length c = search needs
@@ -111,11 +111,11 @@ returns-5 c =
     let at-local = at-if .before .before in
     let at-global = at-local .before .before .before .before in
     let at-charstring = at-global .before .before .before .before in
-    cut-whole _ _ _ _ _ _ _
+    cut-whole _ _ _ _ _ _
     (sym (at-charstring .charstring .given .1) ∙ at-charstring .before .before .read-be .ensures)
     (sym (at-global .global .given .1) ∙ at-global .before .before .read-be2 .ensures)
     (sym (at-local .local .given .1) ∙ at-local .before .before .read-be3 .ensures)
-    (omega (arith, at-if .if1 .left)) _ (c .before .before .flatten .ensures)
+    (omega (arith, at-if .if1 .left)) _ (c .before .before .flatten-cut .ensures)
 
 pub flatten-part-spec : {M : Type 1} → statement M
 flatten-part-spec =
@@ -140,15 +140,15 @@ flatten-part-spec =
     cast-end
     add-end
     returns-4
-    sub-flatten
-    part-flatten-start
-    part-flatten-end
-    sub-flatten-2
-    part-flatten-start-2
-    part-flatten-end-2
-    sub-flatten-3
-    part-flatten-start-3
-    part-flatten-end-3
-    flatten-requires
+    sub-flatten-cut
+    part-flatten-cut-start
+    part-flatten-cut-end
+    sub-flatten-cut-2
+    part-flatten-cut-start-2
+    part-flatten-cut-end-2
+    sub-flatten-cut-3
+    part-flatten-cut-start-3
+    part-flatten-cut-end-3
+    flatten-cut-requires
     same-length
     returns-5)
