@@ -12,13 +12,16 @@ kit:
 test: kit
 	@tools/test $(or $(SECONDS),60)
 
-# the program `flatten`, proved and built, on two font parts
+# the program `flatten`, proved and built, on three font parts
 run: kit
-	@echo 'make run: proves and builds the program flatten, which takes some minutes the first time, and then runs it on two font parts.'
+	@echo 'make run: proves and builds the program flatten, which takes some minutes the first time, and then runs it on three font parts.'
 	@rt check flatten
 	@echo
 	@echo 'examples/squares.part, a glyph that calls one subroutine twice: 0, the length and the tokens run; then its flat string.'
 	@tools/run flatten examples/squares.part
+	@echo
+	@echo 'examples/font.part, a whole font of three such glyphs: 0 and the length; then the INDEX of their flat strings.'
+	@tools/run flatten --font examples/font.part
 	@echo
 	@echo 'examples/forty.part, forty subroutines that each call the next twice: refused once the budget is spent, for the last would run 549755813888 times.'
 	@tools/run flatten examples/forty.part
