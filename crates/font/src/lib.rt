@@ -155,7 +155,7 @@ fn write_kept(count: u32, sum: u64, lengths: &[u32], joined: &[u8], out: &mut [u
         IndexWritten::Bytes(needed) => FontFlattened::Written(needed),
         IndexWritten::NoRoom(needed) => FontFlattened::NoRoom(needed),
         IndexWritten::TooLong => FontFlattened::TooLong,
-        // the lengths are at most 65535, and those of the bytes
+        // these two do not come: there are at most 65535 lengths, and they are those of the bytes
         IndexWritten::TooMany => FontFlattened::TooLong,
         IndexWritten::Mismatch => FontFlattened::TooLong,
     }
