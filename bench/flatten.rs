@@ -5,6 +5,7 @@ mod folders;
 mod hand;
 mod hostile;
 // the Rust's side is compiled here, where it may be inlined
+#[allow(dead_code)]
 #[path = "../tools/oracle/source/flattening.rs"]
 mod lists;
 mod ours;

@@ -16,8 +16,6 @@ use oracle::library::{ighzamrel_read_entry, ighzamrel_write_index};
 use ours::{ours, ours_of_font};
 use std::hint::black_box;
 use std::process::ExitCode;
-use subsetter::cff::index::{create_index, parse_index};
-use subsetter::read::Reader;
 use subsetter::Error;
 use timing::best_of;
 
@@ -203,11 +201,7 @@ fn measure(whole: &mut Whole) {
 
 /// Each list is parsed once, as by the Rust's own subsetting.
 fn by_the_rust(font: &Glyph) -> Result<Vec<u8>, Error> {
-    let lists = Lists::read(font.globals, font.locals);
-    let charstrings =
-        parse_index::<u16>(&mut Reader::new(font.charstring)).ok_or(Error::CFFError)?;
-    let flat: Result<_, Error> = charstrings.into_iter().map(|one| lists.flattened(one)).collect();
-    Ok(create_index(flat?)?.data)
+    Lists::read(font.globals, font.locals).font(font.charstring)
 }
 
 /// By a call for each glyph. How many bytes the flat strings have, and the most tokens of one.
