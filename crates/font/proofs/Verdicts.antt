@@ -56,8 +56,8 @@ not-accepted (Refused w t) k x e = refused-accepted e
 not-accepted (NoRoom n t) k x e = refused-accepted e
 
 -- the first glyph that is refused, told
-pub told-stopped : (glyph : ℕ → Answer (List ℕ)) (i n : ℕ) (lengths joined : List ℕ) (a : Answer Flattening) (x : Run) (s : Survey) → i < n → Ran glyph i
-    → glyph i ≡ flatIn x → a ≡ verdict x → Stopped i a s → Surveyed glyph n lengths joined s
+pub told-stopped : (glyph : ℕ → Answer (List ℕ)) (i n : ℕ) (lengths joined : List ℕ) (a : Answer Flattening) (x : Run) (s : Survey)
+    → i < n → Ran glyph i → glyph i ≡ flatIn x → a ≡ verdict x → Stopped i a s → Surveyed glyph n lengths joined s
 told-stopped glyph i n lengths joined a x (Flat sum) h r g v st = absurd st
 told-stopped glyph i n lengths joined a x (Told j k t) h r g v st =
     ap (λ (m : ℕ). refused (numberOf k) (atGlyph m (atToken t))) (st .0)

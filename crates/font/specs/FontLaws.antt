@@ -72,7 +72,8 @@ module _ (glyph : ℕ → Answer (List ℕ)) where
       ∙ ap (λ (j : ℕ). refused k (atGlyph j v)) same)
 
   -- the first that is refused decides
-  pub first-refused : (i n : ℕ) → i < n → Ran glyph i → (k : ℕ) (v : Values) → glyph i ≡ refused k v → refused k (atGlyph i v) ≡ allFrom glyph 0 n
+  pub first-refused : (i n : ℕ) → i < n → Ran glyph i → (k : ℕ) (v : Values) → glyph i ≡ refused k v
+      → refused k (atGlyph i v) ≡ allFrom glyph 0 n
   first-refused i n h a k v e =
       sym (refused-behind i 0 n h (λ j l. a j (omega arith)) k v (ap glyph (zero-add i) ∙ e)
       ∙ ap (λ (j : ℕ). refused k (atGlyph j v)) (zero-add i))

@@ -40,7 +40,8 @@ module _ (r : Run) where
   verdict-by e q = ap (λ (h : Ending). mapped (λ (x : Ready Flattening). x .told) (readyBy r h)) q
 
   flat-so : (n t : ℕ) → Accepted (r .how) → flatIn r ≡ accepted (flatOf r)
-      → verdict r ≡ accepted (record { size = length (flatOf r); tokens = tokens r }) → accepted (record { size = n; tokens = t }) ≡ verdict r → Flat r n
+      → verdict r ≡ accepted (record { size = length (flatOf r); tokens = tokens r })
+      → accepted (record { size = n; tokens = t }) ≡ verdict r → Flat r n
   flat-so n t a f v e =
       let string : stringOf (flatIn r) ≡ flatOf r = ap stringOf f in
       let long : n ≡ length (flatOf r) = ap (λ (x : Flattening). x .size) (accepted-same (e ∙ v)) in
@@ -79,13 +80,16 @@ module _ (r : Run) where
       go (stopped j) q = let same : _≡_ {A = Answer Flattening} (refused k v) (refused j (atToken (tokens r))) = e ∙ verdict-by (stopped j) q in cc
 
   -- a string that is there is the verdict's
-  pub is-flat : Is (flatIn r) → verdict r ≡ accepted (record { size = length (stringOf (flatIn r)); tokens = tokens r })
+  abbrev told : Answer (List ℕ) → Answer Flattening
+  told x = accepted (record { size = length (stringOf x); tokens = tokens r })
+
+  pub is-flat : Is (flatIn r) → verdict r ≡ told (flatIn r)
   unfolding readyBy
   is-flat i = go (r .how) refl
     where
-      go : (h : Ending) → r .how ≡ h → verdict r ≡ accepted (record { size = length (stringOf (flatIn r)); tokens = tokens r })
-      go back q = verdict-by back q ∙ ap (λ (x : Answer (List ℕ)). accepted (record { size = length (stringOf x); tokens = tokens r })) (sym (flat-by back q))
-      go ended q = verdict-by ended q ∙ ap (λ (x : Answer (List ℕ)). accepted (record { size = length (stringOf x); tokens = tokens r })) (sym (flat-by ended q))
+      go : (h : Ending) → r .how ≡ h → verdict r ≡ told (flatIn r)
+      go back q = verdict-by back q ∙ ap told (sym (flat-by back q))
+      go ended q = verdict-by ended q ∙ ap told (sym (flat-by ended q))
       go (stopped k) q = refused-accepted (sym (flat-by (stopped k) q) ∙ i)
 
 -- an entry's bytes, from what its reader ensures

@@ -81,7 +81,8 @@ module _ (glyph : ℕ → Answer (List ℕ)) where
         ap (λ (m : ℕ). take m (over to joined l (reached .0) same)) ends ∙ over-begins to joined l (reached .0) same f begins (omega arith) in
         record {
           listed = here ∙ ap (λ (ls : List ℕ). ls ++ (length f ∷ [])) (held .listed) ∙ sym (lengths-next glyph i);
-          bytes = there ∙ ap (λ (m : ℕ). take m joined ++ f) (at ∙ sum-is) ∙ ap (λ (d : List ℕ). d ++ f) (held .bytes) ∙ sym (joined-next glyph i);
+          bytes = there ∙ ap (λ (m : ℕ). take m joined ++ f) (at ∙ sum-is) ∙ ap (λ (d : List ℕ). d ++ f) (held .bytes)
+              ∙ sym (joined-next glyph i);
         }
 
   -- ---- what is written
@@ -117,7 +118,8 @@ module _ (ls joined out : List ℕ) (few : length ls ≤ 65535) (adds : total ls
   pub written-so : (k : ℕ) (v : Values) (l : List ℕ) → leaving (refused k v) l ≡ writeIndex 2 ls joined out → (k ≡ 22 → ⊥) × (k ≡ 24 → ⊥)
   written-so k v l e = go (ltb 4294967295 (total ls + 1)) refl
     where
-      told : (j : ℕ) (w : Values) → (j ≡ 22 → ⊥) × (j ≡ 24 → ⊥) → leaving (refused j w) out ≡ writeIndex 2 ls joined out → (k ≡ 22 → ⊥) × (k ≡ 24 → ⊥)
+      told : (j : ℕ) (w : Values) → (j ≡ 22 → ⊥) × (j ≡ 24 → ⊥) → leaving (refused j w) out ≡ writeIndex 2 ls joined out
+          → (k ≡ 22 → ⊥) × (k ≡ 24 → ⊥)
       told j w h q =
           let same : _≡_ {A = Answer ℕ} (refused k v) (refused j w) = answer-as (e ∙ sym q) in
           let number : j ≡ k = cc in
@@ -200,7 +202,8 @@ module _ (glyph : ℕ → Answer (List ℕ)) (z : ℕ) where
       let m = n - (i + 1) in
       let parts : n + 1 ≡ i + (1 + (m + 1)) = omega arith in
       let whole : (n + 1) * z ≡ i * z + (z + (m + 1) * z) =
-      ap (λ (k : ℕ). k * z) parts ∙ add-mul i (1 + (m + 1)) z ∙ ap (λ (k : ℕ). i * z + k) (add-mul 1 (m + 1) z ∙ ap (λ (k : ℕ). k + (m + 1) * z) (one-mul z)) in
+      ap (λ (k : ℕ). k * z) parts ∙ add-mul i (1 + (m + 1)) z
+      ∙ ap (λ (k : ℕ). i * z + k) (add-mul 1 (m + 1) z ∙ ap (λ (k : ℕ). k + (m + 1) * z) (one-mul z)) in
       omega arith
 
   -- one turn: an offset, and the string in its place
@@ -234,9 +237,11 @@ module _ (glyph : ℕ → Answer (List ℕ)) (z : ℕ) where
       → l ≡ ahead i (n - i) at offset (take (dataStart 2 n z + before glyph i) out)
   ahead-last i n at offset out l e long put =
       let none : 0 ≡ n - i = omega arith in
-      let all : out ≡ take (dataStart 2 n z + before glyph i) out = sym (take-all (dataStart 2 n z + before glyph i) out (omega (arith, ap (before glyph) e))) in
+      let end = dataStart 2 n z + before glyph i in
+      let all : out ≡ take end out = sym (take-all end out (omega (arith, ap (before glyph) e))) in
       put ∙ ahead-none i at offset out ∙ ap (λ (k : ℕ). ahead i k at offset out) none ∙ ap (ahead i (n - i) at offset) all
 
 -- what `write_be` leaves where there is room
-pub put-left : (s : List ℕ) (at k v : ℕ) → k ≤ 4 → at + k ≤ length s → (r : Stored) (l : List ℕ) → leaving r l ≡ storedAt s at k v → l ≡ putAt s at k v
+pub put-left : (s : List ℕ) (at k v : ℕ) → k ≤ 4 → at + k ≤ length s → (r : Stored) (l : List ℕ) → leaving r l ≡ storedAt s at k v
+    → l ≡ putAt s at k v
 put-left s at k v h n r l e = left-as (e ∙ sym (stored-here s at k v h n _ refl))

@@ -64,7 +64,8 @@ module _ (glyph : ℕ → Answer (List ℕ)) (n z : ℕ) where
       let cut : length (take d q) ≡ d = length-take-le d q (omega (arith, length-set p 2 z)) in
       let short : length (take d q) ≤ 3 + length o = omega arith in
       let none : drop (3 + length o) (take d q) ≡ [] = drop-of-length-le (take d q) short in
-      let whole : (b ++ (z ∷ [])) ++ (o ++ []) ≡ b ++ (z ∷ o) = ap (λ (s : List ℕ). (b ++ (z ∷ [])) ++ s) (append-nil o) ∙ append-assoc b (z ∷ []) o in
+      let whole : (b ++ (z ∷ [])) ++ (o ++ []) ≡ b ++ (z ∷ o) =
+      ap (λ (s : List ℕ). (b ++ (z ∷ [])) ++ s) (append-nil o) ∙ append-assoc b (z ∷ []) o in
       let all : (b ++ (z ∷ o)) ++ joined ≡ b ++ (z ∷ (o ++ joined)) = append-assoc b (z ∷ o) joined in
       e
       ∙ ap (λ (h : List ℕ). (h ++ (o ++ drop (3 + length o) (take d q))) ++ joined) head
@@ -112,7 +113,8 @@ module _ (glyph : ℕ → Answer (List ℕ)) (n z : ℕ) where
             long = length-take-le needed out h ∙ plan .2 ∙ ap (reachOf 2 n z) (m .sum-is);
           }
 
-      pub plan-written : needed ≤ length out → (l : List ℕ) → l ≡ indexBytes 2 ls joined → leaving (accepted needed) (l ++ drop needed out) ≡ allOf glyph n out
+      pub plan-written : needed ≤ length out → (l : List ℕ) → l ≡ indexBytes 2 ls joined
+          → leaving (accepted needed) (l ++ drop needed out) ≡ allOf glyph n out
       plan-written h l e =
           let b = indexBytes 2 ls joined in
           let left : l ++ drop needed out ≡ laid 0 b out =

@@ -34,6 +34,7 @@ pub number-as : {E A : Type 0} (says : E → Answer A) {n : ℕ} {r w : E} → r
 number-as says k e = e ∙ ap (λ x. numberIn (says x)) k
 
 -- what is told of a list's flaw: the entry i that comes with it, and its number k
-pub flaw-told : {P : Type 0} (n : ℕ) (left : List ℕ) (places : ℕ → ℕ → P) (old : ℕ) (f : Flaw) {i k : ℕ} → i ≡ entryOr old (reasonAt f) → k ≡ reasonOf f
+pub flaw-told : {P : Type 0} (n : ℕ) (left : List ℕ) (places : ℕ → ℕ → P) (old : ℕ) (f : Flaw) {i k : ℕ}
+    → i ≡ entryOr old (reasonAt f) → k ≡ reasonOf f
     → leaving (told n (places i k)) left ≡ leaving (told n (places (entryOr old (reasonAt f)) (reasonOf f))) left
 flaw-told n left places old f p q = rw (p, q)

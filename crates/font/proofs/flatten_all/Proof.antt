@@ -101,7 +101,8 @@ returns-2 : tie.Need-returns-2
 returns-2 c =
     let s = c .before .before .before .before .before .before .before .before .before .before .before .before in
     let g = glyphsOf (s .args .profile) (s .args .charstrings .now) (s .args .globals .now) (s .args .locals .now) (s .args .budget) in
-    let told : refused (numberOf (c .before .survey .given .0 .1 .0)) (atGlyph (c .before .survey .given .0 .0) (atToken (c .before .survey .given .0 .1 .1 .0)))
+    let known = c .before .survey .given .0 in
+    let told : refused (numberOf (known .1 .0)) (atGlyph (known .0) (atToken (known .1 .1 .0)))
     ≡ allFrom g 0 (s .args .count) = rw (c .before .survey .given .1) at (c .before .before .before .before .before .measure-all .ensures) in
     stopped-all g (s .args .count) 0 (s .args .out .now) _ _ told
 

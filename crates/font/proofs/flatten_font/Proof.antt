@@ -41,7 +41,8 @@ module _ (c : tie.Start) where
 
   by-font : (x : Answer (List ℕ)) → x ≡ ifFormed 1 (formation 2 (c .args .globals .now)) (λ _. second)
       → into (c .args .out .now) (mapped sized x)
-      ≡ flattenFont (rulesOf (c .args .profile)) (c .args .charstrings .now) (c .args .globals .now) (c .args .locals .now) (c .args .budget) (c .args .out .now)
+      ≡ flattenFont (rulesOf (c .args .profile)) (c .args .charstrings .now) (c .args .globals .now) (c .args .locals .now) (c .args .budget)
+      (c .args .out .now)
   unfolding fontBy
   by-font x e =
       ap (λ (y : Answer (List ℕ)). into (c .args .out .now) (mapped sized y)) e
@@ -49,17 +50,22 @@ module _ (c : tie.Start) where
 
   refused-font : (k : ℕ) (v : Values) → refused k v ≡ ifFormed 1 (formation 2 (c .args .globals .now)) (λ _. second)
       → leaving (refused k v) (c .args .out .now)
-      ≡ flattenFont (rulesOf (c .args .profile)) (c .args .charstrings .now) (c .args .globals .now) (c .args .locals .now) (c .args .budget) (c .args .out .now)
+      ≡ flattenFont (rulesOf (c .args .profile)) (c .args .charstrings .now) (c .args .globals .now) (c .args .locals .now) (c .args .budget)
+      (c .args .out .now)
   refused-font k v e = sym (into-refused (c .args .out .now) k v) ∙ by-font (refused k v) e
 
 -- the globals are well formed
-globals-in : (c : tie.After-check-list2) → let s = c .before .before .before .before .before .before .before .before in second s ≡ ifFormed 1 (formation 2 (s .args .globals .now)) (λ _. second s)
+globals-in : (c : tie.After-check-list2)
+    → let s = c .before .before .before .before .before .before .before .before in
+    second s ≡ ifFormed 1 (formation 2 (s .args .globals .now)) (λ _. second s)
 globals-in c =
     let first = c .before .before .before .check-list in
     opened 1 _ _ (first .result) (c .before .before .match .keys2) (first .ensures)
 
 -- and the locals
-locals-in : (c : tie.After-check-list3) → let s = c .before .before .before .before .before .before .before .before .before .before .before in third s ≡ ifFormed 1 (formation 2 (s .args .globals .now)) (λ _. second s)
+locals-in : (c : tie.After-check-list3)
+    → let s = c .before .before .before .before .before .before .before .before .before .before .before in
+    third s ≡ ifFormed 1 (formation 2 (s .args .globals .now)) (λ _. second s)
 locals-in c =
     let next = c .before .before .before in
     opened 2 _ _ (next .check-list2 .result) (c .before .before .match2 .keys2) (next .check-list2 .ensures) ∙ globals-in next
@@ -73,7 +79,8 @@ enum-known-flaw c = search needs
 returns : tie.Need-returns
 returns c =
     let first = c .before .before .before .check-list in
-    refused-font (c .before .before .before .before .before .before .before .before) _ _ (shut-out 1 _ _ (first .result) _ (c .before .flaw .given .1) (first .ensures))
+    refused-font (c .before .before .before .before .before .before .before .before) _ _
+    (shut-out 1 _ _ (first .result) _ (c .before .flaw .given .1) (first .ensures))
 
 enum-told : tie.Need-enum-told
 enum-told c = search needs
@@ -103,14 +110,17 @@ enum-known-count : tie.Need-enum-known-count
 enum-known-count c = search needs
 
 -- all three are
-counted : (c : tie.After-known-told4) → let s = c .before .before .before .before .before .before .before .before .before .before .before .before .before .before in accepted (c .before .count .given .0 .0) ≡ formation 2 (s .args .charstrings .now)
+counted : (c : tie.After-known-told4)
+    → let s = c .before .before .before .before .before .before .before .before .before .before .before .before .before .before in
+    accepted (c .before .count .given .0 .0) ≡ formation 2 (s .args .charstrings .now)
 counted c = ap formed (sym (c .before .count .given .1)) ∙ c .before .before .before .check-list3 .ensures
 
 flatten-all-requires : tie.Need-flatten-all-requires
 flatten-all-requires c κs =
     let k = c .before in
     let s = k .before .before .before .before .before .before .before .before .before .before .before .before .before .before in
-    few-glyphs (s .args .charstrings .now) (λ i. k .before .before .before .before .before .before .before .before .before .before .before .before .before .shared-slice-known .given i .fits) _ (counted k)
+    let lent = k .before .before .before .before .before .before .before .before .before .before .before .before .before in
+    few-glyphs (s .args .charstrings .now) (λ i. lent .shared-slice-known .given i .fits) _ (counted k)
 
 returns-3 : tie.Need-returns-3
 returns-3 c =

@@ -61,7 +61,8 @@ module _ (c : tie.After-draft Inv-loop μ-loop) where
   inside = c .before .before .reached .ensures
 
   -- the room is as long as it was
-  room : length (over (c .before .before .reached .result) (turn .loop .joined) put (inside .0) (c .draft .kept .1 .1 .1 .1 .1 .0)) ≡ length (turn .loop .joined)
+  room : length (over (c .before .before .reached .result) (turn .loop .joined) put (inside .0) (c .draft .kept .1 .1 .1 .1 .1 .0))
+      ≡ length (turn .loop .joined)
   room = length-over _ (turn .loop .joined) put (inside .0) (c .draft .kept .1 .1 .1 .1 .1 .0)
 
 -- and is accepted
@@ -154,7 +155,8 @@ loop-again c =
       room d ∙ l .inv .2,
       omega (arith, bound known, l .inv .3),
       ran-next g (l .i) (l .inv .4) (f .is),
-      ap (λ (n : ℕ). n + known .before .verdict .given .0 .0) (l .inv .5) ∙ ap (λ (n : ℕ). before g (l .i) + n) (f .long) ∙ sym (before-next g (l .i)),
+      ap (λ (n : ℕ). n + known .before .verdict .given .0 .0) (l .inv .5) ∙ ap (λ (n : ℕ). before g (l .i) + n) (f .long)
+          ∙ sym (before-next g (l .i)),
       kept-next g (l .i) (l .sum) (known .before .verdict .given .0 .0) (d .before .before .reached .result) (l .lengths)
           (note .last .1 .1 .1 .1 .0) (l .joined) (put d) (l .inv .5) (l .inv .6)
           (inside d) (d .draft .kept .1 .1 .1 .1 .1 .0) begins (f .long) (note .kept .1 .1 .1 .1 .0) noted,
@@ -171,8 +173,9 @@ returns-2 c =
     let l = c .before .loop in
     let a = c .before .before .before .before .before .before .before .args in
     let g = glyphsOf (a .profile) (a .charstrings .now) (a .globals .now) (a .locals .now) (a .budget) in
-    let all : l .i ≡ a .count = omega (arith, l .inv .0) in (
-      record { few = c .before .before .before .before .before .before .before .pre .0; ran = subst (Ran g) all (l .inv .4); sum-is = l .inv .5 ∙ ap (before g) all },
+    let all : l .i ≡ a .count = omega (arith, l .inv .0) in
+    let few = c .before .before .before .before .before .before .before .pre .0 in (
+      record { few = few; ran = subst (Ran g) all (l .inv .4); sum-is = l .inv .5 ∙ ap (before g) all },
       subst (λ (n : ℕ). Kept g n (l .lengths) (l .joined)) all (l .inv .6),
     )
 

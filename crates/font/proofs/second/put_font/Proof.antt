@@ -58,7 +58,8 @@ same-length c = search needs
 returns : tie.Need-returns
 returns c =
     let count = c .before .before .before in
-    none-stored (glyph count) (start count .args .count) (start count .args .size) (start count .args .out .now) _ (c .if1 .taken) (start count .pre .long) (counted count)
+    let a = start count .args in
+    none-stored (glyph count) (a .count) (a .size) (a .out .now) _ (c .if1 .taken) (start count .pre .long) (counted count)
 
 cast-out : tie.Need-cast-out
 cast-out c = omega (arith, sized (at-count c) .four)

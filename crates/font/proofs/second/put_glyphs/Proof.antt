@@ -79,10 +79,12 @@ module _ (c : tie.After-put-run Inv-loop μ-loop) where
   abbrev to : ℕ
   to = 2 + (start turn .args .count + 1) * start turn .args .size + turn .loop .offset
 
-  begun : Begun (glyph turn (turn .loop .i)) to (at-entry .before .before .before .write-be .last .0) (c .put-run .last .1 .1 .1 .1 .1 .1 .0) (c .put-run .result)
+  begun : Begun (glyph turn (turn .loop .i)) to (at-entry .before .before .before .write-be .last .0)
+      (c .put-run .last .1 .1 .1 .1 .1 .1 .0) (c .put-run .result)
   begun =
+      let a = start turn .args in
       subst
-      (λ (b : List ℕ). Begun (stringIn (start turn .args .profile) (start turn .args .globals .now) (start turn .args .locals .now) (start turn .args .budget) b)
+      (λ (b : List ℕ). Begun (stringIn (a .profile) (a .globals .now) (a .locals .now) (a .budget) b)
       to (at-entry .before .before .before .write-be .last .0) (c .put-run .last .1 .1 .1 .1 .1 .1 .0) (c .put-run .result))
       (here at-entry) (c .put-run .ensures)
 

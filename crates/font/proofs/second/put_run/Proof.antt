@@ -59,9 +59,10 @@ returns-2 c =
     let at-draft = c .before .before .before .before .before in
     let a = start at-draft .args in
     let begins = subst (Begins (at-draft .draft .last .1 .1 .1 .1 .1 .0)) (sym (told c .string-is)) (at-draft .draft .ensures .1) in
+    let room = start at-draft .pre .room in
     record {
       told = told c .long;
-      bytes = over-begins (a .to) (a .out .now) _ (omega (arith, start at-draft .pre .room)) (at-draft .draft .kept .1 .1 .1 .1 .1 .0) _ begins (start at-draft .pre .room);
+      bytes = over-begins (a .to) (a .out .now) _ (omega (arith, room)) (at-draft .draft .kept .1 .1 .1 .1 .1 .0) _ begins room;
     }
 
 pub put-run-spec : {M : Type 1} → statement M

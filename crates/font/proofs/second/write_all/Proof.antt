@@ -27,7 +27,8 @@ module _ (c : tie.After-known-told) where
   abbrev needed : ℕ
   needed = c .before .size .given .0 .1 .0
 
-  plan : (start .args .sum + 1 ≤ 4294967295) × (size ≡ sizeFor (start .args .sum + 1)) × (needed ≡ reachOf 2 (start .args .count) size (start .args .sum))
+  plan : (start .args .sum + 1 ≤ 4294967295) × (size ≡ sizeFor (start .args .sum + 1))
+      × (needed ≡ reachOf 2 (start .args .count) size (start .args .sum))
   plan = planned _ _ _ _ _ (ap indexPlan (sym (c .before .size .given .1)) ∙ c .before .before .before .plan-index .ensures)
 
 plan-index-requires : tie.Need-plan-index-requires
@@ -70,8 +71,8 @@ returns-3 : tie.Need-returns-3
 returns-3 c =
     let k = c .before .before .before .before .before in
     let s = start k in
-    plan-written (glyph s) (s .args .count) (size k) (s .args .out .now) (s .args .sum) (s .pre) (needed k) (plan k) (c .before .before .before .before .if1 .left) _
-    (c .before .before .put-font .ensures)
+    plan-written (glyph s) (s .args .count) (size k) (s .args .out .now) (s .args .sum) (s .pre) (needed k) (plan k)
+    (c .before .before .before .before .if1 .left) _ (c .before .before .put-font .ensures)
 
 pub write-all-spec : {M : Type 1} → statement M
 write-all-spec =
