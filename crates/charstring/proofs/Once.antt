@@ -8,15 +8,17 @@ use lib.ListN.{length, getD}
 use borrow.Fn.Kinds.{Dens, resT, endedOf}
 use contract.Lifetimes.{Lfts}
 use denote.Triple.Clauses.{AtExit}
-use Rattle.number.specs.Answer.{Answer, accepted, refused, lengthOr, tokensOr, entryOr, reasonOr}
+use Rattle.number.specs.Answer.{Values, alone, atToken, needing, needingAt, atEntry, because, atGlyph, Answer, accepted, refused, lengthOr, tokensOr, entryOr, reasonOr}
 use Rattle.number.specs.AnswerLaws.{answer-as, left-as}
 use Rattle.index.proofs.Once.{flaw-of, flaw-undo}
 use Rattle.reading.specs.Rules.{rulesOf}
 use Rattle.reading.specs.Reading.{original}
-use Rattle.reading.specs.Answers.{Flattening, flatOf, numberOf, flattened}
+use Rattle.reading.specs.Answers.{Flattening, flatOf, numberOf, stopNumber, stopValues, flattened}
 use Rattle.reading.specs.declared.Refusal.{Refusal}
 use Rattle.reading.specs.declared.Refusal.the-variants.{BudgetSpent, BytesLacking, TooManyOperands, UnknownOperator, NoIndex}
-use Rattle.reading.specs.declared.Refusal.the-variants.{IndexNotLast, NoEntry, TooDeep, TooManyHints, Composite}
+use Rattle.reading.specs.declared.Refusal.the-variants.{IndexNotLast, NoEntry, TooDeep, TooManyHints, Composite, OperandsAtMask}
+use Rattle.reading.specs.declared.Stopped.{Stopped}
+use Rattle.reading.specs.declared.Stopped.the-variants.{At, Alone}
 use Rattle.reading.specs.declared.Flattened.{Flattened}
 use Rattle.reading.specs.declared.Flattened.the-variants.{Accepted, BadGlobals, BadLocals, Refused, NoRoom}
 use Rattle.charstring.specs.Run.{Begins}
@@ -34,7 +36,8 @@ use Rattle.charstring.proofs.flattening.measure.Reads as measure-reads
 pub refusal-of : ℕ → Refusal
 refusal-of k =
     cond (eqb k 3) BudgetSpent (cond (eqb k 4) BytesLacking (cond (eqb k 5) TooManyOperands (cond (eqb k 6) UnknownOperator (cond (eqb k 7) NoIndex
-    (cond (eqb k 8) IndexNotLast (cond (eqb k 9) NoEntry (cond (eqb k 10) TooDeep (cond (eqb k 11) TooManyHints Composite))))))))
+    (cond (eqb k 8) IndexNotLast (cond (eqb k 9) NoEntry (cond (eqb k 10) TooDeep (cond (eqb k 11) TooManyHints (cond (eqb k 12) Composite
+    OperandsAtMask)))))))))
 
 pub refusal-undo : (k : Refusal) → refusal-of (numberOf k) ≡ k
 unfolding refusal-of
@@ -48,33 +51,51 @@ refusal-undo NoEntry = refl
 refusal-undo TooDeep = refl
 refusal-undo TooManyHints = refl
 refusal-undo Composite = refl
+refusal-undo OperandsAtMask = refl
+
+-- the tokens tell the two ways apart
+pub stop-of : ℕ → Values → Stopped
+stop-of k alone = Alone (refusal-of k)
+stop-of k (atToken t) = At (refusal-of k) t
+stop-of k (needing n) = Alone (refusal-of k)
+stop-of k (needingAt n t) = Alone (refusal-of k)
+stop-of k (atEntry i) = Alone (refusal-of k)
+stop-of k (because j v) = Alone (refusal-of k)
+stop-of k (atGlyph i v) = Alone (refusal-of k)
+
+pub stop-undo : (w : Stopped) → stop-of (stopNumber w) (stopValues w) ≡ w
+unfolding stop-of
+stop-undo (At k t) = ap (λ (j : Refusal). At j t) (refusal-undo k)
+stop-undo (Alone k) = ap Alone (refusal-undo k)
 
 flattened-of : Answer Flattening → Flattened
 flattened-of (accepted x) = Accepted (x .size) (x .tokens)
 flattened-of (refused k v) =
     cond (eqb k 1) (BadGlobals (flaw-of (reasonOr 0 v) (entryOr 0 v))) (cond (eqb k 2) (BadLocals (flaw-of (reasonOr 0 v) (entryOr 0 v)))
-    (cond (eqb k 13) (NoRoom (lengthOr 0 v) (tokensOr 0 v)) (Refused (refusal-of k) (tokensOr 0 v))))
+    (cond (eqb k 13) (NoRoom (lengthOr 0 v) (tokensOr 0 v)) (Refused (stop-of k v))))
 
 -- a refusal's number is none of 1, 2 and 13
-as-refused : (k : Refusal) (t : ℕ) → flattened-of (flattened (Refused k t)) ≡ Refused (refusal-of (numberOf k)) t
-unfolding flattened-of tokensOr
-as-refused BudgetSpent t = refl
-as-refused BytesLacking t = refl
-as-refused TooManyOperands t = refl
-as-refused UnknownOperator t = refl
-as-refused NoIndex t = refl
-as-refused IndexNotLast t = refl
-as-refused NoEntry t = refl
-as-refused TooDeep t = refl
-as-refused TooManyHints t = refl
-as-refused Composite t = refl
+as-refused : (k : Refusal) (v : Values) → flattened-of (refused (numberOf k) v) ≡ Refused (stop-of (numberOf k) v)
+unfolding flattened-of
+as-refused BudgetSpent v = refl
+as-refused BytesLacking v = refl
+as-refused TooManyOperands v = refl
+as-refused UnknownOperator v = refl
+as-refused NoIndex v = refl
+as-refused IndexNotLast v = refl
+as-refused NoEntry v = refl
+as-refused TooDeep v = refl
+as-refused TooManyHints v = refl
+as-refused Composite v = refl
+as-refused OperandsAtMask v = refl
 
 flattened-undo : (r : Flattened) → flattened-of (flattened r) ≡ r
 unfolding flattened-of tokensOr entryOr
 flattened-undo (Accepted n t) = refl
 flattened-undo (BadGlobals f) = ap BadGlobals (flaw-undo f)
 flattened-undo (BadLocals f) = ap BadLocals (flaw-undo f)
-flattened-undo (Refused k t) = as-refused k t ∙ ap (λ (j : Refusal). Refused j t) (refusal-undo k)
+flattened-undo (Refused (At k t)) = as-refused k (atToken t) ∙ ap Refused (stop-undo (At k t))
+flattened-undo (Refused (Alone k)) = as-refused k alone ∙ ap Refused (stop-undo (Alone k))
 flattened-undo (NoRoom n t) = refl
 
 -- ---- the contracts

@@ -1,25 +1,42 @@
 -- What a token asks for, and when it is refused: the laws that `look` and `ask` go by. Assumes nothing.
 use mathlib.Core.Path.{_≡_, refl, sym, ap, subst, _∙_}
-use mathlib.Core.Bool.{Bool}
+use mathlib.Core.Bool.{Bool, true, false, _&&_}
+use mathlib.Core.Logic.{_⊎_, inl, inr}
 use mathlib.Core.List.{List, [], _∷_}
 use Prim.Native.Nat.{ℕ, _+_, _-_, _/_, _≤_, _<_}
 use native.Mathlib.Omega.{arith}
+use lib.Dec.{ltb}
 use lib.ListN.{length, drop, length-drop}
 use borrow.Author.Tests.{le-ltb, lt-ltb, le-leb, lt-leb, eq-eqb, ne-eqb}
 use Rattle.number.specs.declared.Operand.{Operand}
 use Rattle.reading.specs.Rules.{Rules}
 use Rattle.reading.specs.Lists.{Lists, Subrs, listed}
 use Rattle.reading.specs.Tokens.{number, operator, token, lacking, cut}
-use Rattle.reading.specs.Items.{Left, counted, atMask}
+use Rattle.reading.specs.Items.{Left, counted, atMask, leftOver}
 use Rattle.reading.specs.Reading.{State as Now, refuse, onNumber, onStem, onMask, onEnd, onCall, onOperator, onCut, onToken}
 use Rattle.reading.specs.declared.Operator.{Operator}
 use Rattle.reading.specs.declared.Which.{Which}
 use Rattle.reading.specs.declared.Kind.{Kind}
 use Rattle.reading.specs.declared.Kind.the-variants.{Stem, Mask, Call, End, Unknown}
-use Rattle.charstring.specs.Run.{Counts, AtOperator, Declines, Asked, Refuses, Looked}
+use Rattle.charstring.specs.Run.{Counts, Light, AtOperator, Declines, Asked, Refuses, Looked}
 use Rattle.charstring.specs.declared.look.Request.{Request}
 use Rattle.charstring.specs.declared.look.Request.the-variants.{Push, Clears, Masks, Calls, Returns, Ends, Out, Bad, Short}
 use Rattle.charstring.specs.declared.state.State.{State}
+
+-- ---- operands that wait at a mask
+
+no-more : (b : Bool) → (b && false) ≡ false
+no-more true = refl
+no-more false = refl
+
+none-over : (b : Bool) (m n : ℕ) → (m ≡ 0) ⊎ (b ≡ true → n ≡ 0) → (b && (ltb 0 m && ltb 0 n)) ≡ false
+none-over false m n h = refl
+none-over true m n (inl z) = rw z
+none-over true m n (inr f) = rw (f refl) (no-more (ltb 0 m))
+
+pub over-none : (rules : Rules) (s : State) (t : Now) → Counts t s → Light rules s → leftOver rules (t .left) ≡ false
+over-none rules s t c (inl z) = none-over (rules .clean) (t .left .mask) (length (t .left .operands)) (inl (c .mask-is ∙ z))
+over-none rules s t c (inr f) = none-over (rules .clean) (t .left .mask) (length (t .left .operands)) (inr (λ b. c .count-is ∙ f b))
 
 -- ---- an operator that is refused
 
@@ -78,34 +95,48 @@ module _ (rules : Rules) (n j : ℕ) (p : Operator) (s : State) where
       by-kind Stem 11 e
       (λ lists levels at rest t c l. rw (lt-leb (counted (t .left) .hints) (rules .hints) (let q = hints-now t c in omega arith)))
 
-  mask-many : (x m : ℕ) → rules .kind p ≡ Mask → AtMask x m → rules .hints < x → Refused 11
+  mask-many : (x m : ℕ) → rules .kind p ≡ Mask → Light rules s → AtMask x m → rules .hints < x → Refused 11
   unfolding onOperator onMask
-  mask-many x m e f h =
+  mask-many x m e w f h =
       by-kind Mask 11 e
-      (λ lists levels at rest t c l. rw (lt-leb (atMask (t .left) .hints) (rules .hints) (let q = f t c .0 in omega arith)))
+      (λ lists levels at rest t c l.
+      rw (over-none rules s t c w, lt-leb (atMask (t .left) .hints) (rules .hints) (let q = f t c .0 in omega arith)))
 
-  mask-lacks : (x m : ℕ) → rules .kind p ≡ Mask → AtMask x m → x ≤ rules .hints → n - j < m → Refused 4
+  mask-lacks : (x m : ℕ) → rules .kind p ≡ Mask → Light rules s → AtMask x m → x ≤ rules .hints → n - j < m → Refused 4
   unfolding onOperator onMask
-  mask-lacks x m e f h k =
+  mask-lacks x m e w f h k =
       by-kind Mask 4 e
       (λ lists levels at rest t c l.
       rw (
+        over-none rules s t c w,
         le-leb (atMask (t .left) .hints) (rules .hints) (let q = f t c .0 in omega arith),
         lt-leb (atMask (t .left) .mask) (length rest) (let q = f t c .1 in omega arith),
       ))
 
   pub first-many : rules .kind p ≡ Mask → s .mask ≡ 0 → rules .hints < s .hints + s .count / 2 → Refused 11
-  first-many e z h = mask-many _ _ e (mask-first z) h
+  first-many e z h = mask-many _ _ e (inl z) (mask-first z) h
 
   pub first-lacks : rules .kind p ≡ Mask → s .mask ≡ 0 → s .hints + s .count / 2 ≤ rules .hints
       → n - j < (s .hints + s .count / 2 + 7) / 8 → Refused 4
-  first-lacks e z h k = mask-lacks _ _ e (mask-first z) h k
+  first-lacks e z h k = mask-lacks _ _ e (inl z) (mask-first z) h k
 
-  pub later-many : rules .kind p ≡ Mask → (s .mask ≡ 0 → ⊥) → rules .hints < s .hints → Refused 11
-  later-many e z h = mask-many _ _ e (mask-later z) h
+  pub later-many : rules .kind p ≡ Mask → (s .mask ≡ 0 → ⊥) → (rules .clean ≡ true → s .count ≡ 0) → rules .hints < s .hints → Refused 11
+  later-many e z w h = mask-many _ _ e (inr w) (mask-later z) h
 
-  pub later-lacks : rules .kind p ≡ Mask → (s .mask ≡ 0 → ⊥) → s .hints ≤ rules .hints → n - j < s .mask → Refused 4
-  later-lacks e z h k = mask-lacks _ _ e (mask-later z) h k
+  pub later-lacks : rules .kind p ≡ Mask → (s .mask ≡ 0 → ⊥) → (rules .clean ≡ true → s .count ≡ 0) → s .hints ≤ rules .hints
+      → n - j < s .mask → Refused 4
+  later-lacks e z w h k = mask-lacks _ _ e (inr w) (mask-later z) h k
+
+  pub later-waits : rules .kind p ≡ Mask → (s .mask ≡ 0 → ⊥) → rules .clean ≡ true → (s .count ≡ 0 → ⊥) → Refused 15
+  unfolding onOperator onMask
+  later-waits e z b w =
+      by-kind Mask 15 e
+      (λ lists levels at rest t c l.
+      rw (
+        b,
+        lt-ltb 0 (t .left .mask) (let q = c .mask-is in let d = z in omega arith),
+        lt-ltb 0 (length (t .left .operands)) (let q = c .count-is in let d = w in omega arith),
+      ))
 
 -- ---- a token
 

@@ -1,7 +1,10 @@
 -- How a state of the code stands for a state of the reading, and what `look`, `stretch` and `run` ensure.
 use mathlib.Core.Path.{_≡_}
+use mathlib.Core.Bool.{true, cond}
+use mathlib.Core.Logic.{_⊎_}
 use mathlib.Core.List.{List, [], _∷_, _++_}
 use Prim.Native.Nat.{ℕ, zero, suc, _+_, _-_, _/_, _≤_, _<_}
+use lib.Dec.{leb}
 use lib.ListN.{length, getD, drop}
 use Rattle.number.specs.Number.{charstringRows}
 use Rattle.number.specs.Written.{spelling}
@@ -16,6 +19,9 @@ use Rattle.reading.specs.Flat.{flat}
 use Rattle.reading.specs.Answers.{numberOf}
 use Rattle.reading.specs.Valid.{ByteLists, Good}
 use Rattle.reading.specs.declared.Rules.{Rules as CodeRules}
+use Rattle.reading.specs.declared.Refusal.{Refusal}
+use Rattle.reading.specs.declared.Stopped.{Stopped}
+use Rattle.reading.specs.declared.Stopped.the-variants.{At, Alone}
 use Rattle.reading.specs.declared.Operator.{Operator}
 use Rattle.reading.specs.declared.Which.{Which}
 use Rattle.reading.specs.declared.Which.the-variants.{Local, Global}
@@ -56,10 +62,14 @@ pub data Hinted (rules : Rules) (s : State) (p : Operator) (h : ℕ) : Type 0 wh
   stays : rules .kind p ≡ Clear → h ≡ s .hints → Hinted rules s p h
   counts : rules .kind p ≡ Stem → h ≡ s .hints + s .count / 2 → h ≤ rules .hints → Hinted rules s p h
 
+-- no operand waits at a mask against the rules
+abbrev pub Light : Rules → State → Type 0
+Light rules s = (s .mask ≡ 0) ⊎ (rules .clean ≡ true → s .count ≡ 0)
+
 -- the operands, hints and length after a mask operator
-pub data MaskFixed (s : State) (c h m : ℕ) : Type 0 where
-  first : s .mask ≡ 0 → c ≡ 0 → h ≡ s .hints + s .count / 2 → m ≡ (h + 7) / 8 → MaskFixed s c h m
-  later : (s .mask ≡ 0 → ⊥) → c ≡ s .count → h ≡ s .hints → m ≡ s .mask → MaskFixed s c h m
+pub data MaskFixed (rules : Rules) (s : State) (c h m : ℕ) : Type 0 where
+  first : s .mask ≡ 0 → c ≡ 0 → h ≡ s .hints + s .count / 2 → m ≡ (h + 7) / 8 → MaskFixed rules s c h m
+  later : (s .mask ≡ 0 → ⊥) → (rules .clean ≡ true → s .count ≡ 0) → c ≡ s .count → h ≡ s .hints → m ≡ s .mask → MaskFixed rules s c h m
 
 -- what an operator asks for, of a string of n bytes, where what stands behind it starts at j
 module _ (rules : Rules) (n j : ℕ) (p : Operator) (s : State) where
@@ -71,7 +81,7 @@ module _ (rules : Rules) (n j : ℕ) (p : Operator) (s : State) where
   abbrev pub Asked : Request → Type 0
   Asked (Push k o) = ⊥
   Asked (Clears k h q) = (q ≡ p) × (k ≡ j) × Hinted rules s p h
-  Asked (Masks a b c h q) = (q ≡ p) × (a ≡ j) × (rules .kind p ≡ Mask) × (h ≤ rules .hints) × (j ≤ b) × (b ≤ n) × MaskFixed s c h (b - j)
+  Asked (Masks a b c h q) = (q ≡ p) × (a ≡ j) × (rules .kind p ≡ Mask) × (h ≤ rules .hints) × (j ≤ b) × (b ≤ n) × MaskFixed rules s c h (b - j)
   Asked (Calls k w) = (k ≡ j) × (rules .kind p ≡ Call w) × (0 < s .count)
   Asked Returns = rules .kind p ≡ Return
   Asked (Ends q) = (q ≡ p) × (rules .kind p ≡ End) × (s .count < 4)
@@ -103,7 +113,7 @@ module _ (rules : Rules) (cs : List ℕ) (i budget : ℕ) (s : State) where
   Looked (Push j o) = Pushes j o
   Looked (Clears j h p) = AtOperator cs i j (s .tokens) budget p × Hinted rules s p h
   Looked (Masks a b c h p) =
-      AtOperator cs i a (s .tokens) budget p × (rules .kind p ≡ Mask) × (h ≤ rules .hints) × (a ≤ b) × (b ≤ length cs) × MaskFixed s c h (b - a)
+      AtOperator cs i a (s .tokens) budget p × (rules .kind p ≡ Mask) × (h ≤ rules .hints) × (a ≤ b) × (b ≤ length cs) × MaskFixed rules s c h (b - a)
   Looked (Calls j w) = CallsAt j w
   Looked Returns = (p : Operator) × (j : ℕ) × AtOperator cs i j (s .tokens) budget p × (rules .kind p ≡ Return)
   Looked (Ends p) = (j : ℕ) × AtOperator cs i j (s .tokens) budget p × (rules .kind p ≡ End) × (s .count < 4)
@@ -188,6 +198,10 @@ pub record Roomy (rules : CodeRules) (stack : List ℕ) : Type 0 where
   pub few-hints : rules .hints ≤ 65535
   pub few-words : length stack ≤ 65535
   pub operands-fit : rules .operands ≤ length stack
+
+-- what a run tells that was refused so: t tokens with 3 to 12
+abbrev pub stopAs : Refusal → ℕ → Stopped
+stopAs k t = cond (leb (numberOf k) 12) (At k t) (Alone k)
 
 -- ---- a stretch of tokens without a call
 

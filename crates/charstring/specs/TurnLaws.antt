@@ -1,6 +1,7 @@
 -- A token that is no call and leads on, in the reading's words: an operand, an operator that clears the stack, a mask. Assumes nothing.
 use mathlib.Core.Path.{_≡_, refl, sym, ap, subst, _∙_}
 use mathlib.Core.List.{List, [], _∷_, _++_, append-assoc}
+use mathlib.Core.Logic.{inl, inr}
 use Prim.Native.Nat.{ℕ, _+_, _-_, _/_, _≤_, _<_, zero-le}
 use native.Mathlib.Numerals.{add-one}
 use native.Mathlib.Omega.{arith}
@@ -21,7 +22,8 @@ use Rattle.reading.specs.declared.Kind.the-variants.{Mask}
 use Rattle.charstring.specs.Words.{unpackOf, stackOf}
 use Rattle.charstring.specs.WordsLaws.{sets-begins, begins-cut, stack-pushed}
 use Rattle.charstring.specs.States.{pushed, cleared, masked}
-use Rattle.charstring.specs.Run.{AtOperator, Hinted, stays, counts, MaskFixed, first, later, Pushes, Begins, tailOf, Repr, Setup, Here}
+use Rattle.charstring.specs.Run.{AtOperator, Hinted, stays, counts, Light, MaskFixed, first, later, Pushes, Begins, tailOf, Repr, Setup, Here}
+use Rattle.charstring.specs.LookLaws.{over-none}
 use Rattle.charstring.specs.HereLaws.{counted-as, taken, led, Leads, goes-on}
 use Rattle.charstring.specs.declared.state.State.{State}
 
@@ -126,15 +128,16 @@ module _ (u : Setup) (stack out : List ℕ) (s : State) (i : ℕ) (h : Here u st
     now-fixed = atMask (h .now .left)
 
     mask-turn : (a b c hints length₁ : ℕ) (out₁ : List ℕ) → AtOperator (u .cs) i a (s .tokens) (u .budget) p → u .rules .kind p ≡ Mask
-        → hints ≤ u .rules .hints → a ≤ b → b ≤ length (u .cs)
+        → Light (u .rules) s → hints ≤ u .rules .hints → a ≤ b → b ≤ length (u .cs)
         → out₁ ≡ sets out (s .length) (operatorBytes p ++ take (b - a) (drop a (u .cs))) → length₁ ≡ s .length + length (operatorBytes p) + (b - a)
         → c ≤ length stack → now-fixed .operands ≡ stackOf stack c → now-fixed .hints ≡ hints → now-fixed .mask ≡ b - a
         → Here u stack out₁ (masked s c hints (b - a) length₁) b
     unfolding spelled tailOf
-    mask-turn a b c hints length₁ out₁ q k most ab bn d long room ops hs ms =
+    mask-turn a b c hints length₁ out₁ q k light most ab bn d long room ops hs ms =
         let n = now-fixed .mask in
         let fits-in : n ≤ length (drop a (u .cs)) = omega (arith, ms, length-drop a (u .cs)) in
-        let g = masks p (drop a (u .cs)) (q .cut-is) k (subst (λ (y : ℕ). y ≤ u .rules .hints) (sym hs) most) fits-in in
+        let g = masks p (drop a (u .cs)) (q .cut-is) k (over-none (u .rules) s (h .now) (counted-as u stack out s i h) light)
+        (subst (λ (y : ℕ). y ≤ u .rules .hints) (sym hs) most) fits-in in
         let m : List ℕ = take (b - a) (drop a (u .cs)) in
         let behind : drop n (drop a (u .cs)) ≡ drop b (u .cs) = ap (λ (y : ℕ). drop y (drop a (u .cs))) ms ∙ drop-both a b (u .cs) ab in
         let items : take n (drop a (u .cs)) ≡ m = ap (λ (y : ℕ). take y (drop a (u .cs))) ms in
@@ -149,7 +152,7 @@ module _ (u : Setup) (stack out : List ℕ) (s : State) (i : ℕ) (h : Here u st
         (let e = length-append (operatorBytes p) m in omega arith))
 
     pub by-mask : (a b c hints length₁ : ℕ) (out₁ : List ℕ) → AtOperator (u .cs) i a (s .tokens) (u .budget) p → u .rules .kind p ≡ Mask
-        → hints ≤ u .rules .hints → a ≤ b → b ≤ length (u .cs) → MaskFixed s c hints (b - a)
+        → hints ≤ u .rules .hints → a ≤ b → b ≤ length (u .cs) → MaskFixed (u .rules) s c hints (b - a)
         → out₁ ≡ sets out (s .length) (operatorBytes p ++ take (b - a) (drop a (u .cs))) → length₁ ≡ s .length + length (operatorBytes p) + (b - a)
         → Here u stack out₁ (masked s c hints (b - a) length₁) b
     by-mask a b c hints length₁ out₁ q k l ab bn (first z cz e m) d long =
@@ -157,12 +160,12 @@ module _ (u : Setup) (stack out : List ℕ) (s : State) (i : ℕ) (h : Here u st
         let is : now-fixed ≡ record { operands = []; hints = counted x .hints; mask = (counted x .hints + 7) / 8 }
         = rw (eq-eqb (x .mask) 0 (counted-as u stack out s i h .mask-is ∙ z)) in
         let hs = hints-now hints e in
-        mask-turn a b c hints length₁ out₁ q k l ab bn d long (subst (λ (n : ℕ). n ≤ length stack) (sym cz) zero-le)
+        mask-turn a b c hints length₁ out₁ q k (inl z) l ab bn d long (subst (λ (n : ℕ). n ≤ length stack) (sym cz) zero-le)
         (ap (λ (y : Left). y .operands) is ∙ none-on stack c cz) (ap (λ (y : Left). y .hints) is ∙ hs)
         (ap (λ (y : Left). y .mask) is ∙ ap (λ (n : ℕ). (n + 7) / 8) hs ∙ sym m)
-    by-mask a b c hints length₁ out₁ q k l ab bn (later z cz e m) d long =
+    by-mask a b c hints length₁ out₁ q k l ab bn (later z w cz e m) d long =
         let same : now-fixed ≡ h .now .left = rw (ne-eqb (h .now .left .mask) 0 (λ y. z (sym (counted-as u stack out s i h .mask-is) ∙ y))) in
         let r = h .repr in
-        mask-turn a b c hints length₁ out₁ q k l ab bn d long (subst (λ (n : ℕ). n ≤ length stack) (sym cz) (r .room))
+        mask-turn a b c hints length₁ out₁ q k (inr w) l ab bn d long (subst (λ (n : ℕ). n ≤ length stack) (sym cz) (r .room))
         (ap (λ (y : Left). y .operands) same ∙ r .ops ∙ ap (stackOf stack) (sym cz)) (ap (λ (y : Left). y .hints) same ∙ r .hints-are ∙ sym e)
         (ap (λ (y : Left). y .mask) same ∙ r .mask-is ∙ sym m)

@@ -1,28 +1,31 @@
 -- What `draft`, `write` and `flatten` answer, from what `run` ensures. Assumes nothing.
 use mathlib.Core.Path.{_≡_, refl, sym, ap, subst, _∙_}
+use mathlib.Core.Bool.{Bool, true, false, cond}
 use mathlib.Core.List.{List, _++_}
 use Prim.Native.Nat.{ℕ, _≤_, _<_, zero-le}
 use native.Mathlib.Nat.{lt-of-le-of-lt}
 use native.Mathlib.Omega.{arith}
-use lib.Dec.{lit≤}
+use lib.Dec.{leb, lit≤}
 use lib.ListN.{length, take, drop}
 use lib.Seq.{length-take-le, take-all}
-use Rattle.number.specs.Answer.{Values, Answer, accepted, refused, atToken, needingAt, mapped, leaving, Ready, into}
+use Rattle.number.specs.Answer.{Values, Answer, accepted, refused, alone, atToken, needingAt, mapped, leaving, Ready, into}
 use Rattle.number.specs.AnswerLaws.{refused-accepted, accepted-same, into-fits, into-short}
 use Rattle.reading.specs.Rules.{Rules, rulesOf, meant}
 use Rattle.reading.specs.Items.{leftBy}
 use Rattle.reading.specs.Reading.{struck, start, Ending as How, back, ended, stopped, Run, tokensBy, tokens, reading, original}
 use Rattle.reading.specs.Valid.{none}
 use Rattle.reading.specs.Flat.{flat}
-use Rattle.reading.specs.Answers.{Flattening, flatOf, flatReady, readyBy, verdict, outcome, numberOf}
+use Rattle.reading.specs.Answers.{Flattening, flatOf, flatReady, readyBy, verdict, outcome, numberOf, comesWith, stopNumber, stopValues}
 use Rattle.reading.specs.declared.Rules.{Rules as CodeRules}
 use Rattle.reading.specs.declared.Profile.{Profile}
 use Rattle.reading.specs.declared.Profile.the-variants.{Plain, Strict}
 use Rattle.reading.specs.declared.Refusal.{Refusal}
+use Rattle.reading.specs.declared.Stopped.{Stopped}
+use Rattle.reading.specs.declared.Stopped.the-variants.{At, Alone}
 use Rattle.charstring.specs.Words.{stackOf}
 use Rattle.charstring.specs.WordsLaws.{begins-none, begins-take}
 use Rattle.charstring.specs.States.{begun}
-use Rattle.charstring.specs.Run.{Begins, tailOf, Repr, howOf, Done, Roomy, countOf, Setting, Sound, RunsTo}
+use Rattle.charstring.specs.Run.{Begins, tailOf, Repr, howOf, Done, stopAs, Roomy, countOf, Setting, Sound, RunsTo}
 use Rattle.charstring.specs.declared.state.State.{State}
 use Rattle.charstring.specs.declared.look.Limits.{Limits}
 use Rattle.charstring.specs.declared.stretch.Ending.the-variants.{Back, Ended, Refused}
@@ -90,6 +93,16 @@ roomy-profile p rules is stack full =
 
 -- ---- the verdict
 
+abbrev Told : Stopped → ℕ → Values → Type 0
+Told w k v = _≡_ {A = Answer Flattening} (refused (stopNumber w) (stopValues w)) (refused k v)
+
+told-so : (k : Refusal) (t : ℕ) → Told (stopAs k t) (numberOf k) (comesWith (numberOf k) t)
+told-so k t = go (leb (numberOf k) 12)
+  where
+    go : (b : Bool) → Told (cond b (At k t) (Alone k)) (numberOf k) (cond b (atToken t) alone)
+    go true = refl
+    go false = refl
+
 module _ (rules : Rules) (stack₁ out₁ : List ℕ) (r : Ran) (x : Run) (d : Done rules stack₁ out₁ r x) where
   abbrev measured : Flattening
   measured = record { size = r .st .length; tokens = r .st .tokens }
@@ -118,10 +131,10 @@ module _ (rules : Rules) (stack₁ out₁ : List ℕ) (r : Ran) (x : Run) (d : D
     tokens-is : tokens x ≡ tokensBy (r .st .tokens) (stopped (numberOf k))
     tokens-is = ap (tokensBy (length (x .state .shown))) stopped-is ∙ ap (λ (n : ℕ). tokensBy n (stopped (numberOf k))) (d .tokens-are)
 
-    pub was-stopped : (t : ℕ) → t ≡ tokensBy (r .st .tokens) (stopped (numberOf k)) → refused (numberOf k) (atToken t) ≡ verdict x
+    pub was-stopped : (w : Stopped) → w ≡ stopAs k (tokensBy (r .st .tokens) (stopped (numberOf k))) → refused (stopNumber w) (stopValues w) ≡ verdict x
     unfolding verdict readyBy
-    was-stopped t q =
-        ap (λ (n : ℕ). refused (numberOf k) (atToken n)) (q ∙ sym tokens-is)
+    was-stopped w q =
+        ap (λ (y : Stopped). refused (stopNumber y) (stopValues y)) (q ∙ ap (stopAs k) (sym tokens-is)) ∙ told-so k (tokens x)
         ∙ ap (λ (h : How). mapped (λ (y : Ready Flattening). y .told) (readyBy x h)) (sym stopped-is)
 
     pub few-tokens : (budget : ℕ) → tokens x ≤ budget → budget < 4294967296 → tokensBy (r .st .tokens) (stopped (numberOf k)) < 4294967296

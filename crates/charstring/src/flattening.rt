@@ -13,6 +13,7 @@ use reading::Flattened;
 use reading::Profile;
 use reading::Refusal;
 use reading::Rules;
+use reading::Stopped;
 use reading::rules_of;
 ghost use mathlib.Core.Path.{_≡_};
 ghost use Prim.Native.Nat.{_-_, _≤_, _<_};
@@ -23,7 +24,7 @@ ghost use Rattle.reading.specs.Rules.{rulesOf, meant};
 ghost use Rattle.reading.specs.Lists.{countIn};
 ghost use Rattle.reading.specs.Reading.{stopped, tokensBy, original};
 ghost use Rattle.reading.specs.Answers.{numberOf, flatOf, flattened, verdict, outcome, flattening};
-ghost use Rattle.charstring.specs.Run.{Begins, Roomy, countOf};
+ghost use Rattle.charstring.specs.Run.{Begins, Roomy, stopAs, countOf};
 
 // Flattens a charstring with its two subroutine lists into the start of out. A refusal changes no
 // byte of out, and acceptance only those that it reports.
@@ -149,7 +150,7 @@ fn draft_by<'a>(
     match how {
         Ending::Back => Flattened::Accepted(st.length, st.tokens),
         Ending::Ended => Flattened::Accepted(st.length, st.tokens),
-        Ending::Refused(k) => Flattened::Refused(k, counted(k, st.tokens)),
+        Ending::Refused(k) => Flattened::Refused(stopped_by(k, st.tokens)),
     }
 }
 
@@ -188,13 +189,16 @@ fn count_of(list: &[u8], width: Width) -> u32
     count
 }
 
-// The tokens of a refused run: a refusal but 3 counts the token that it refuses.
-fn counted(k: Refusal, tokens: u32) -> u32
+// What a refused run tells: its tokens, of which a refusal but 3 counts the one that it refuses; with 15 nothing.
+fn stopped_by(k: Refusal, tokens: u32) -> Stopped
     requires { ⌜ tokensBy tokens (stopped (numberOf k)) < 4294967296 ⌝ }
-    ensures { λ r. ⌜ r ≡ tokensBy tokens (stopped (numberOf k)) ⌝ }
+    ensures { λ r. ⌜ r ≡ stopAs k (tokensBy tokens (stopped (numberOf k))) ⌝ }
 {
     if let Refusal::BudgetSpent = k {
-        return tokens;
+        return Stopped::At(k, tokens);
     }
-    tokens + 1
+    if let Refusal::OperandsAtMask = k {
+        return Stopped::Alone(k);
+    }
+    Stopped::At(k, tokens + 1)
 }

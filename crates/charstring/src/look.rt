@@ -1,4 +1,4 @@
-// What the token at a place asks for, and the refusals 3 to 7, 11 and 12 in their order.
+// What the token at a place asks for, and the refusals 3 to 7, 11, 12 and 15 in their order.
 use crate::operator::clears;
 use crate::operator::kind_of;
 use crate::state::State;
@@ -129,13 +129,16 @@ fn ask_stem(n: usize, next: usize, p: Operator, rules: Rules, s: State) -> Reque
     Request::Clears(next, h, p)
 }
 
-// A mask's hints and bytes. Once its length is fixed, the operands stay.
+// A mask's hints and bytes. Once its length is fixed, the operands stay, or by clean rules there may be none.
 fn ask_mask(n: usize, next: usize, p: Operator, rules: Rules, s: State) -> Request
     requires { ⌜ (s .hints ≤ 65535) × (s .count ≤ 65535) × (next ≤ n) ⌝ }
     requires { ⌜ meant rules .kind p ≡ Mask ⌝ }
     ensures { λ r. ⌜ Asked (meant rules) n next p s r ⌝ }
 {
     if s.mask != 0 {
+        if rules.clean && 0 < s.count {
+            return Request::Bad(Refusal::OperandsAtMask);
+        }
         if rules.hints < s.hints {
             return Request::Bad(Refusal::TooManyHints);
         }

@@ -7,13 +7,15 @@ use lib.Dec.{eqb}
 use borrow.Fn.Kinds.{Dens, resT, endedOf}
 use contract.Lifetimes.{Lfts}
 use denote.Triple.Clauses.{AtExit}
-use Rattle.number.specs.Answer.{Answer, accepted, refused, lengthOr, tokensOr, entryOr, reasonOr, glyphOr}
+use Rattle.number.specs.Answer.{Values, alone, atToken, needing, needingAt, atEntry, because, atGlyph, Answer, accepted, refused, lengthOr, entryOr, reasonOr, glyphOr}
 use Rattle.number.specs.AnswerLaws.{answer-as, left-as}
 use Rattle.index.proofs.Once.{flaw-of, flaw-undo}
 use Rattle.reading.specs.declared.Refusal.{Refusal}
 use Rattle.reading.specs.declared.Refusal.the-variants.{BudgetSpent, BytesLacking, TooManyOperands, UnknownOperator, NoIndex}
-use Rattle.reading.specs.declared.Refusal.the-variants.{IndexNotLast, NoEntry, TooDeep, TooManyHints, Composite}
-use Rattle.charstring.proofs.Once.{refusal-of, refusal-undo}
+use Rattle.reading.specs.declared.Refusal.the-variants.{IndexNotLast, NoEntry, TooDeep, TooManyHints, Composite, OperandsAtMask}
+use Rattle.reading.specs.declared.Stopped.the-variants.{At, Alone}
+use Rattle.reading.specs.Answers.{numberOf}
+use Rattle.charstring.proofs.Once.{stop-of, stop-undo}
 use Rattle.font.specs.Font.{fontFlattened}
 use Rattle.font.specs.declared.FontFlattened.{FontFlattened}
 use Rattle.font.specs.declared.FontFlattened.the-variants.{Written, BadGlobals, BadLocals, BadCharstrings, Refused, TooLong, NoRoom}
@@ -22,27 +24,38 @@ use Rattle.font.proofs.FontFlattened.number.Reads as number-reads
 use Rattle.font.proofs.flatten_font.Kinds as kinds
 use Rattle.font.proofs.flatten_font.Reads as reads
 
+-- what comes with a glyph's refusal
+withGlyph : Values → Values
+withGlyph alone = alone
+withGlyph (atToken t) = alone
+withGlyph (needing n) = alone
+withGlyph (needingAt n t) = alone
+withGlyph (atEntry i) = alone
+withGlyph (because k v) = alone
+withGlyph (atGlyph i v) = v
+
 -- the way back, from what an answer says to the answer
 font-of : Answer ℕ → FontFlattened
 font-of (accepted n) = Written n
 font-of (refused k v) =
     cond (eqb k 1) (BadGlobals (flaw-of (reasonOr 0 v) (entryOr 0 v))) (cond (eqb k 2) (BadLocals (flaw-of (reasonOr 0 v) (entryOr 0 v)))
     (cond (eqb k 26) (BadCharstrings (flaw-of (reasonOr 0 v) (entryOr 0 v))) (cond (eqb k 23) TooLong
-    (cond (eqb k 13) (NoRoom (lengthOr 0 v)) (Refused (glyphOr 0 v) (refusal-of k) (tokensOr 0 v))))))
+    (cond (eqb k 13) (NoRoom (lengthOr 0 v)) (Refused (glyphOr 0 v) (stop-of k (withGlyph v)))))))
 
 -- a glyph's refusal is none of 1, 2, 26, 23 and 13
-as-refused : (i : ℕ) (k : Refusal) (t : ℕ) → font-of (fontFlattened (Refused i k t)) ≡ Refused i k t
-unfolding font-of tokensOr
-as-refused i BudgetSpent t = ap (λ (j : Refusal). Refused i j t) (refusal-undo BudgetSpent)
-as-refused i BytesLacking t = ap (λ (j : Refusal). Refused i j t) (refusal-undo BytesLacking)
-as-refused i TooManyOperands t = ap (λ (j : Refusal). Refused i j t) (refusal-undo TooManyOperands)
-as-refused i UnknownOperator t = ap (λ (j : Refusal). Refused i j t) (refusal-undo UnknownOperator)
-as-refused i NoIndex t = ap (λ (j : Refusal). Refused i j t) (refusal-undo NoIndex)
-as-refused i IndexNotLast t = ap (λ (j : Refusal). Refused i j t) (refusal-undo IndexNotLast)
-as-refused i NoEntry t = ap (λ (j : Refusal). Refused i j t) (refusal-undo NoEntry)
-as-refused i TooDeep t = ap (λ (j : Refusal). Refused i j t) (refusal-undo TooDeep)
-as-refused i TooManyHints t = ap (λ (j : Refusal). Refused i j t) (refusal-undo TooManyHints)
-as-refused i Composite t = ap (λ (j : Refusal). Refused i j t) (refusal-undo Composite)
+as-refused : (i : ℕ) (k : Refusal) (v : Values) → font-of (refused (numberOf k) (atGlyph i v)) ≡ Refused i (stop-of (numberOf k) v)
+unfolding font-of withGlyph
+as-refused i BudgetSpent v = refl
+as-refused i BytesLacking v = refl
+as-refused i TooManyOperands v = refl
+as-refused i UnknownOperator v = refl
+as-refused i NoIndex v = refl
+as-refused i IndexNotLast v = refl
+as-refused i NoEntry v = refl
+as-refused i TooDeep v = refl
+as-refused i TooManyHints v = refl
+as-refused i Composite v = refl
+as-refused i OperandsAtMask v = refl
 
 font-undo : (r : FontFlattened) → font-of (fontFlattened r) ≡ r
 unfolding font-of entryOr
@@ -50,7 +63,8 @@ font-undo (Written n) = refl
 font-undo (BadGlobals f) = ap BadGlobals (flaw-undo f)
 font-undo (BadLocals f) = ap BadLocals (flaw-undo f)
 font-undo (BadCharstrings f) = ap BadCharstrings (flaw-undo f)
-font-undo (Refused i k t) = as-refused i k t
+font-undo (Refused i (At k t)) = as-refused i k (atToken t) ∙ ap (Refused i) (stop-undo (At k t))
+font-undo (Refused i (Alone k)) = as-refused i k alone ∙ ap (Refused i) (stop-undo (Alone k))
 font-undo TooLong = refl
 font-undo (NoRoom n) = refl
 

@@ -5,16 +5,16 @@ use Prim.Native.Nat.{ℕ, _<_}
 use native.Mathlib.Omega.{arith}
 use types.Run.{OneOf, miss}
 use denote.Enum.Declared.{tagOf}
-use Rattle.number.specs.Answer.{Values, Answer, accepted, refused, atToken, needingAt, because, atGlyph}
+use Rattle.number.specs.Answer.{Values, Answer, accepted, refused, alone, atToken, needingAt, because, atGlyph}
 use Rattle.number.specs.AnswerLaws.{refused-accepted}
 use Rattle.reading.specs.Reading.{Run}
-use Rattle.reading.specs.Answers.{Flattening, flattened, verdict, numberOf}
+use Rattle.reading.specs.Answers.{Flattening, flattened, verdict, stopNumber, stopValues}
 use Rattle.reading.specs.declared.Flattened.{Flattened}
 use Rattle.reading.specs.declared.Flattened.the-variants.{Accepted, BadGlobals, BadLocals, Refused, NoRoom}
 use Rattle.reading.proofs.Flattened as flattened-type
 use Rattle.font.specs.Font.{flatIn}
-use Rattle.font.specs.Code.{Ran, Surveyed, OfRun, Stopped}
-use Rattle.font.specs.GlyphLaws.{verdict-refused, verdict-token}
+use Rattle.font.specs.Code.{Ran, Surveyed, OfRun, StoppedAt}
+use Rattle.font.specs.GlyphLaws.{verdict-refused, verdict-with}
 use Rattle.font.specs.FontLaws.{first-refused}
 use Rattle.font.specs.declared.first.Survey.{Survey}
 use Rattle.font.specs.declared.first.Survey.the-variants.{Flat, Refused as Told}
@@ -30,35 +30,35 @@ Others = 0 ∷ 1 ∷ 2 ∷ 4 ∷ []
 because-token : {k t : ℕ} {v : Values} → because k v ≡ atToken t → ⊥
 because-token e = let z : _≡_ {A = ℕ} 0 1 = cc in omega arith
 
-needing-token : {n m t : ℕ} → needingAt n m ≡ atToken t → ⊥
-needing-token e = let z : _≡_ {A = ℕ} 0 1 = cc in omega arith
+needing-alone : {n m : ℕ} → needingAt n m ≡ alone → ⊥
+needing-alone e = let z : _≡_ {A = ℕ} 0 1 = cc in omega arith
 
 -- a verdict is no other answer
 pub not-of-run : (r : Flattened) → OneOf Others (tagOf flattened-type.the-type r) → OfRun (flattened r) → ⊥
 not-of-run (Accepted n t) k o = o
-not-of-run (BadGlobals f) k o = because-token (verdict-token (o .0) _ _ (o .1))
-not-of-run (BadLocals f) k o = because-token (verdict-token (o .0) _ _ (o .1))
-not-of-run (Refused w t) k o = miss Others 3 tt k
-not-of-run (NoRoom n t) k o = needing-token (verdict-token (o .0) _ _ (o .1))
+not-of-run (BadGlobals f) k o = because-token (verdict-with (o .0) _ _ (o .1))
+not-of-run (BadLocals f) k o = because-token (verdict-with (o .0) _ _ (o .1))
+not-of-run (Refused w) k o = miss Others 3 tt k
+not-of-run (NoRoom n t) k o = needing-alone (verdict-with (o .0) _ _ (o .1))
 
 pub of-run : (r : Flattened) (x : Run) → OneOf Refusals (tagOf flattened-type.the-type r) → flattened r ≡ verdict x → OfRun (flattened r)
 of-run (Accepted n t) x k e = absurd (miss Refusals 0 tt k)
 of-run (BadGlobals f) x k e = (x, e)
 of-run (BadLocals f) x k e = (x, e)
-of-run (Refused w t) x k e = (x, e)
+of-run (Refused w) x k e = (x, e)
 of-run (NoRoom n t) x k e = (x, e)
 
 pub not-accepted : (r : Flattened) → OneOf Refusals (tagOf flattened-type.the-type r) → (x : Flattening) → flattened r ≡ accepted x → ⊥
 not-accepted (Accepted n t) k x e = miss Refusals 0 tt k
 not-accepted (BadGlobals f) k x e = refused-accepted e
 not-accepted (BadLocals f) k x e = refused-accepted e
-not-accepted (Refused w t) k x e = refused-accepted e
+not-accepted (Refused w) k x e = refused-accepted e
 not-accepted (NoRoom n t) k x e = refused-accepted e
 
 -- the first glyph that is refused, told
 pub told-stopped : (glyph : ℕ → Answer (List ℕ)) (i n : ℕ) (lengths joined : List ℕ) (a : Answer Flattening) (x : Run) (s : Survey)
-    → i < n → Ran glyph i → glyph i ≡ flatIn x → a ≡ verdict x → Stopped i a s → Surveyed glyph n lengths joined s
+    → i < n → Ran glyph i → glyph i ≡ flatIn x → a ≡ verdict x → StoppedAt i a s → Surveyed glyph n lengths joined s
 told-stopped glyph i n lengths joined a x (Flat sum) h r g v st = absurd st
-told-stopped glyph i n lengths joined a x (Told j k t) h r g v st =
-    ap (λ (m : ℕ). refused (numberOf k) (atGlyph m (atToken t))) (st .0)
-    ∙ first-refused glyph i n h r (numberOf k) (atToken t) (g ∙ verdict-refused x (numberOf k) (atToken t) (sym (st .1) ∙ v))
+told-stopped glyph i n lengths joined a x (Told j w) h r g v st =
+    ap (λ (m : ℕ). refused (stopNumber w) (atGlyph m (stopValues w))) (st .0)
+    ∙ first-refused glyph i n h r (stopNumber w) (stopValues w) (g ∙ verdict-refused x (stopNumber w) (stopValues w) (sym (st .1) ∙ v))

@@ -3,13 +3,13 @@ use mathlib.Core.Path.{_≡_}
 use mathlib.Core.List.{List, [], _∷_, _++_}
 use Prim.Native.Nat.{ℕ, zero, suc, _+_, _<_, _≤_}
 use lib.ListN.{length, take, set}
-use Rattle.number.specs.Answer.{Answer, accepted, refused, atToken, atGlyph, mapped, Outcome, sized, into}
+use Rattle.number.specs.Answer.{Answer, accepted, refused, atGlyph, mapped, Outcome, sized, into}
 use Rattle.index.specs.Index.{dataStart, part}
 use Rattle.index_writing.specs.Writing.{total, sizeFor, offsets, reachOf}
 use Rattle.index_writing.specs.Code.{laid}
 use Rattle.reading.specs.Rules.{rulesOf}
 use Rattle.reading.specs.Reading.{Run, original}
-use Rattle.reading.specs.Answers.{Flattening, verdict, numberOf}
+use Rattle.reading.specs.Answers.{Flattening, verdict, stopNumber, stopValues}
 use Rattle.reading.specs.declared.Profile.{Profile}
 use Rattle.font.specs.Font.{flatIn, allFrom, lengthsOf, joinedOf, indexed}
 use Rattle.font.specs.declared.first.Survey.{Survey}
@@ -67,7 +67,7 @@ module _ (glyph : ℕ → Answer (List ℕ)) where
 
   abbrev pub Surveyed : ℕ → List ℕ → List ℕ → Survey → Type 0
   Surveyed n lengths joined (Flat sum) = Measured n sum × Kept n lengths joined
-  Surveyed n lengths joined (Refused i k t) = refused (numberOf k) (atGlyph i (atToken t)) ≡ allFrom glyph 0 n
+  Surveyed n lengths joined (Refused i w) = refused (stopNumber w) (atGlyph i (stopValues w)) ≡ allFrom glyph 0 n
 
   -- ---- what the second pass stores
 
@@ -107,9 +107,9 @@ OfRun (accepted x) = ⊥
 OfRun (refused k v) = (r : Run) × (refused k v ≡ verdict r)
 
 -- told of glyph i
-abbrev pub Stopped : ℕ → Answer Flattening → Survey → Type 0
-Stopped i a (Flat sum) = ⊥
-Stopped i a (Refused j k t) = (j ≡ i) × (a ≡ refused (numberOf k) (atToken t))
+abbrev pub StoppedAt : ℕ → Answer Flattening → Survey → Type 0
+StoppedAt i a (Flat sum) = ⊥
+StoppedAt i a (Refused j w) = (j ≡ i) × (a ≡ refused (stopNumber w) (stopValues w))
 
 -- a string that is there, and has room from `to` on
 pub record Fits (a : Answer (List ℕ)) (to : ℕ) (out : List ℕ) : Type 0 where

@@ -1,4 +1,4 @@
--- Worked examples of a whole font (RULES, "A whole font"), plain, proved as one list by the definitions. Assumes nothing.
+-- Worked examples of a whole font (RULES, "A whole font"), proved as one list by the definitions. Assumes nothing.
 use mathlib.Core.Path.{_≡_, refl}
 use mathlib.Core.List.{List, [], _∷_, _++_}
 use Prim.Native.Nat.{ℕ}
@@ -12,7 +12,7 @@ use Rattle.number.specs.Call.{bitLength, counts, callIndex, entryOf, biased, ca
 use Rattle.index.specs.Index.{offset, byLast, bySize, byCount, extent, placeBy, placeIn, place, bytesBy as partBytes, part}
 use Rattle.index.specs.Formed.{unless, entriesFrom, formedBy, formation}
 use Rattle.index_writing.specs.Writing.{total, sizeFor, offsets, behindCount, indexBytes, indexOf}
-use Rattle.reading.specs.Rules.{byteKind, escapedKind, kindBy, plain}
+use Rattle.reading.specs.Rules.{Rules, byteKind, escapedKind, kindBy, plain, strict}
 use Rattle.reading.specs.Lists.{countIn, entryBy, subrsOf, listsOf}
 use Rattle.reading.specs.Tokens.{escapedAt, operatorAt, cutBy, cut}
 use Rattle.reading.specs.Reading.{struck, tokensBy, endsInOperand, admitted, onNumber, onStem, onMask, onEnd, onEntry}
@@ -30,6 +30,7 @@ pub record Row : Type 0 where
   pub charstrings : List ℕ
   pub globals : List ℕ
   pub locals : List ℕ
+  pub rules : Rules
   pub budget : ℕ
   pub room : ℕ
   pub expected : Expected
@@ -43,7 +44,7 @@ expectedBy out (gives b) = leaving (accepted (length b)) (b ++ drop (length b) o
 expectedBy out (refuses n v) = leaving (refused n v) out
 
 abbrev pub Holds : Row → Type 0
-Holds r = flattenFont plain (r .charstrings) (r .globals) (r .locals) (r .budget) (lent r) ≡ expectedBy (lent r) (r .expected)
+Holds r = flattenFont (r .rules) (r .charstrings) (r .globals) (r .locals) (r .budget) (lent r) ≡ expectedBy (lent r) (r .expected)
 
 abbrev pub All : List Row → Type 0
 All [] = Unit {0}
@@ -60,7 +61,7 @@ L = 0x00 ∷ 0x01 ∷ 0x01 ∷ 0x01 ∷ 0x05 ∷ 0x8C ∷ 0x8D ∷ 0x15 ∷ 0x0B
 
 -- ample room
 abbrev row : List ℕ → List ℕ → ℕ → Expected → Row
-row charstrings locals budget e = record { charstrings = charstrings; globals = none; locals = locals; budget = budget; room = 12; expected = e }
+row charstrings locals budget e = record { charstrings = charstrings; globals = none; locals = locals; rules = plain; budget = budget; room = 12; expected = e }
 
 -- an endchar
 abbrev one : List ℕ
@@ -88,9 +89,14 @@ short = 0x00 ∷ 0x03 ∷ 0x01 ∷ 0x01 ∷ 0x03 ∷ 0x05 ∷ 0x07 ∷ 0x8B ∷ 
 abbrev descending : List ℕ
 descending = 0x00 ∷ 0x03 ∷ 0x01 ∷ 0x01 ∷ 0x03 ∷ 0x02 ∷ 0x03 ∷ 0x00 ∷ 0x00 ∷ []
 
+-- an endchar, and a glyph whose second mask comes with an operand
+abbrev waiting : List ℕ
+waiting =
+    0x00 ∷ 0x02 ∷ 0x01 ∷ 0x01 ∷ 0x02 ∷ 0x0A ∷ 0x0E ∷ 0x8B ∷ 0x8C ∷ 0x13 ∷ 0x80 ∷ 0x8B ∷ 0x13 ∷ 0x80 ∷ 0x0E ∷ []
+
 abbrev withLists : List ℕ → List ℕ → List ℕ → Expected → Row
 withLists charstrings globals locals e =
-    record { charstrings = charstrings; globals = globals; locals = locals; budget = 1000; room = 12; expected = e }
+    record { charstrings = charstrings; globals = globals; locals = locals; rules = plain; budget = 1000; room = 12; expected = e }
 
 abbrev pub rows : List Row
 rows =
@@ -107,18 +113,21 @@ rows =
     ∷ row three none 1000 (refuses 6 (atGlyph 1 (atToken 1)))
     ∷ row threeBad none 1000 (refuses 6 (atGlyph 1 (atToken 1)))
     -- each glyph has the whole budget
-    ∷ record { charstrings = short; globals = none; locals = none; budget = 2; room = 13; expected = gives short }
-    ∷ record { charstrings = short; globals = none; locals = none; budget = 1; room = 13; expected = refuses 3 (atGlyph 0 (atToken 1)) }
+    ∷ record { charstrings = short; globals = none; locals = none; rules = plain; budget = 2; room = 13; expected = gives short }
+    ∷ record { charstrings = short; globals = none; locals = none; rules = plain; budget = 1; room = 13; expected = refuses 3 (atGlyph 0 (atToken 1)) }
     -- room for all of it but a byte
-    ∷ record { charstrings = two; globals = none; locals = L; budget = 1000; room = 9; expected = refuses 13 (needing 10) }
-    ∷ record { charstrings = two; globals = none; locals = L; budget = 1000; room = 10; expected = gives flatTwo }
+    ∷ record { charstrings = two; globals = none; locals = L; rules = plain; budget = 1000; room = 9; expected = refuses 13 (needing 10) }
+    ∷ record { charstrings = two; globals = none; locals = L; rules = plain; budget = 1000; room = 10; expected = gives flatTwo }
     -- 1 before 2, 2 before 26, 26 before a glyph's own; each with its reason
     ∷ withLists descending [] descending (refuses 1 (because 20 alone))
     ∷ withLists descending none (0x00 ∷ 0x01 ∷ 0x05 ∷ []) (refuses 2 (because 21 alone))
     ∷ withLists descending none none (refuses 26 (because 41 (atEntry 1)))
     ∷ withLists [] none none (refuses 26 (because 20 alone))
+    -- 15 of a glyph comes with its number alone, in strict
+    ∷ record { charstrings = waiting; globals = none; locals = none; rules = strict; budget = 1000; room = 24; expected = refuses 15 (atGlyph 1 alone) }
+    ∷ record { charstrings = waiting; globals = none; locals = none; rules = plain; budget = 1000; room = 24; expected = gives waiting }
     -- a glyph's own before 13
-    ∷ record { charstrings = three; globals = none; locals = none; budget = 1000; room = 0; expected = refuses 6 (atGlyph 1 (atToken 1)) }
+    ∷ record { charstrings = three; globals = none; locals = none; rules = plain; budget = 1000; room = 0; expected = refuses 6 (atGlyph 1 (atToken 1)) }
     ∷ []
 
 pub rows-hold : All rows
@@ -131,4 +140,4 @@ unfolding expectedBy into readyBy flatIn decided allFrom lengthsOf joinedOf inde
     struck tokensBy endsInOperand admitted onNumber onStem onMask onEnd onEntry onIndex onCall onOperator onCut onToken
     resume after tokensOf read reading spelled flat
 rows-hold =
-    (refl, (refl, (refl, (refl, (refl, (refl, (refl, (refl, (refl, (refl, (refl, (refl, (refl, (refl, (refl, (refl, (refl, tt)))))))))))))))))
+    (refl, (refl, (refl, (refl, (refl, (refl, (refl, (refl, (refl, (refl, (refl, (refl, (refl, (refl, (refl, (refl, (refl, (refl, (refl, tt)))))))))))))))))))

@@ -3,13 +3,13 @@
 use Prim.Native.Nat.{ℕ, zero, suc, _+_}
 use mathlib.Core.List.{List, [], _∷_, _++_}
 use lib.ListN.{length}
-use Rattle.number.specs.Answer.{Answer, accepted, refused, alone, atToken, needing, because, atGlyph, mapped, Outcome, Ready, sized, into}
+use Rattle.number.specs.Answer.{Answer, accepted, refused, alone, needing, because, atGlyph, mapped, Outcome, Ready, sized, into}
 use Rattle.index.specs.Index.{part}
 use Rattle.index.specs.Formed.{formation, reasonOf, reasonAt}
 use Rattle.index_writing.specs.Writing.{indexOf}
 use Rattle.reading.specs.Rules.{Rules}
 use Rattle.reading.specs.Reading.{Run, original}
-use Rattle.reading.specs.Answers.{Flattening, readyBy, numberOf}
+use Rattle.reading.specs.Answers.{Flattening, readyBy, stopNumber, stopValues}
 use Rattle.font.specs.declared.FontFlattened.{FontFlattened}
 use Rattle.font.specs.declared.FontFlattened.the-variants.{Written, BadGlobals, BadLocals, BadCharstrings, Refused, TooLong, NoRoom}
 
@@ -72,6 +72,6 @@ fontFlattened (Written n) = accepted n
 fontFlattened (BadGlobals f) = refused 1 (because (reasonOf f) (reasonAt f))
 fontFlattened (BadLocals f) = refused 2 (because (reasonOf f) (reasonAt f))
 fontFlattened (BadCharstrings f) = refused 26 (because (reasonOf f) (reasonAt f))
-fontFlattened (Refused i k t) = refused (numberOf k) (atGlyph i (atToken t))
+fontFlattened (Refused i w) = refused (stopNumber w) (atGlyph i (stopValues w))
 fontFlattened TooLong = refused 23 alone
 fontFlattened (NoRoom n) = refused 13 (needing n)

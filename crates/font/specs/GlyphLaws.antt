@@ -6,14 +6,14 @@ use native.Mathlib.Nat.{mul-le-mul}
 use native.Mathlib.Omega.{arith}
 use lib.Dec.{lit≤}
 use lib.ListN.{length}
-use Rattle.number.specs.Answer.{Values, Answer, accepted, refused, atToken, mapped, Ready}
+use Rattle.number.specs.Answer.{Values, Answer, accepted, refused, mapped, Ready}
 use Rattle.number.specs.AnswerLaws.{refused-accepted, accepted-same}
 use Rattle.index.specs.Index.{Part, partBy, partAt, part}
 use Rattle.reading.specs.Rules.{rulesOf}
 use Rattle.reading.specs.Lists.{listsOf}
 use Rattle.reading.specs.Tokens.{Bytes}
 use Rattle.reading.specs.Reading.{Ending, back, ended, stopped, Accepted, Run, tokens, original}
-use Rattle.reading.specs.Answers.{Flattening, flatOf, readyBy, verdict}
+use Rattle.reading.specs.Answers.{Flattening, flatOf, readyBy, verdict, comesWith}
 use Rattle.reading.specs.AnswerLaws.{accepted-tokens}
 use Rattle.reading.specs.BudgetLaws.{tokens-budget}
 use Rattle.reading.specs.SizeLaws.{longestItem, flat-most}
@@ -64,20 +64,24 @@ module _ (r : Run) where
       go back q = refused-accepted (e ∙ verdict-by back q)
       go ended q = refused-accepted (e ∙ verdict-by ended q)
       go (stopped j) q =
-          let same : _≡_ {A = Answer Flattening} (refused k v) (refused j (atToken (tokens r))) = e ∙ verdict-by (stopped j) q in
+          let same : _≡_ {A = Answer Flattening} (refused k v) (refused j (comesWith j (tokens r))) = e ∙ verdict-by (stopped j) q in
           let number : k ≡ j = cc in
-          let values : v ≡ atToken (tokens r) = cc in
+          let values : v ≡ comesWith j (tokens r) = cc in
           flat-by (stopped j) q ∙ rw (number, values)
 
-  -- with a refusal comes the token, and nothing else
-  pub verdict-token : (k : ℕ) (v : Values) → refused k v ≡ verdict r → v ≡ atToken (tokens r)
+  -- with a refusal comes the token or nothing
+  pub verdict-with : (k : ℕ) (v : Values) → refused k v ≡ verdict r → v ≡ comesWith k (tokens r)
   unfolding readyBy
-  verdict-token k v e = go (r .how) refl
+  verdict-with k v e = go (r .how) refl
     where
-      go : (h : Ending) → r .how ≡ h → v ≡ atToken (tokens r)
+      go : (h : Ending) → r .how ≡ h → v ≡ comesWith k (tokens r)
       go back q = refused-accepted (e ∙ verdict-by back q)
       go ended q = refused-accepted (e ∙ verdict-by ended q)
-      go (stopped j) q = let same : _≡_ {A = Answer Flattening} (refused k v) (refused j (atToken (tokens r))) = e ∙ verdict-by (stopped j) q in cc
+      go (stopped j) q =
+          let same : _≡_ {A = Answer Flattening} (refused k v) (refused j (comesWith j (tokens r))) = e ∙ verdict-by (stopped j) q in
+          let number : j ≡ k = cc in
+          let values : v ≡ comesWith j (tokens r) = cc in
+          values ∙ ap (λ (n : ℕ). comesWith n (tokens r)) number
 
   -- a string that is there is the verdict's
   abbrev told : Answer (List ℕ) → Answer Flattening

@@ -21,7 +21,7 @@ use Rattle.reading.specs.Tokens.{Bytes}
 use Rattle.reading.specs.Reading.{Ending, back, ended, stopped, Run, original}
 use Rattle.reading.specs.Answers.{Flattening, readyBy}
 use Rattle.reading.specs.Demands.{RunRefusal}
-use Rattle.reading.specs.StopLaws.{EndsSo, run-stops}
+use Rattle.reading.specs.StopLaws.{EndsSo, run-stops, refusal-most}
 use Rattle.font.specs.Font.{flatIn, decided, allFrom, lengthsOf, joinedOf, indexed, ifFormed, fontBy, flatFont, flattenFont}
 use Rattle.font.specs.Demands.{Why, bad-globals, bad-locals, bad-charstrings, bad-glyph, too-long, no-room, IsFormed, RefusalDemand}
 use Rattle.font.specs.FontLaws.{joined-total}
@@ -181,7 +181,8 @@ why-others : (rules : Rules) (charstrings globals locals : List ℕ) (budget : �
 why-others rules charstrings globals locals budget out k₁ v₁ (bad-globals k v g) = (λ e. omega arith, λ e. omega arith)
 why-others rules charstrings globals locals budget out k₁ v₁ (bad-locals k v g l) = (λ e. omega arith, λ e. omega arith)
 why-others rules charstrings globals locals budget out k₁ v₁ (bad-charstrings k v g l c) = (λ e. omega arith, λ e. omega arith)
-why-others rules charstrings globals locals budget out k₁ v₁ (bad-glyph n i k v c h o r b) = (λ e. omega arith, λ e. omega arith)
+why-others rules charstrings globals locals budget out k₁ v₁ (bad-glyph n i k v c h o r b) =
+    let most = refusal-most k o in (λ e. omega arith, λ e. omega arith)
 why-others rules charstrings globals locals budget out k₁ v₁ (too-long fs c a h) = (λ e. omega arith, λ e. omega arith)
 why-others rules charstrings globals locals budget out k₁ v₁ (no-room f a h) = (λ e. omega arith, λ e. omega arith)
 

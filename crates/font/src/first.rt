@@ -4,19 +4,19 @@ use index::Width;
 use index::entry_part;
 use reading::Flattened;
 use reading::Profile;
-use reading::Refusal;
+use reading::Stopped;
 ghost use mathlib.Core.Path.{_≡_};
 ghost use Prim.Native.Nat.{_+_, _≤_, _<_};
 ghost use lib.ListN.{length};
 ghost use Rattle.reading.specs.Answers.{flattened};
-ghost use Rattle.font.specs.Code.{glyphsOf, Surveyed, OfRun, Stopped, Noted, Reached};
+ghost use Rattle.font.specs.Code.{glyphsOf, Surveyed, OfRun, StoppedAt, Noted, Reached};
 
 // What the first pass finds.
 pub(crate) enum Survey {
     // The bytes of all flat strings, added up.
     Flat(u64),
-    // The first glyph that is refused: its number, why, and at which token.
-    Refused(u32, Refusal, u32),
+    // The first glyph that is refused: its number, and why.
+    Refused(u32, Stopped),
 }
 
 // Runs all glyphs. Where there is room for all, their flat strings come to stand in `joined`, one behind the other, and
@@ -79,10 +79,10 @@ fn note(i: u32, n: usize, sum: u64, room: usize, lengths: &mut [u32])
 // What a glyph's refusal makes of the first pass. A verdict is no other answer.
 fn stopped(glyph: u32, verdict: Flattened) -> Survey
     requires { ⌜ OfRun (flattened verdict) ⌝ }
-    ensures { λ r. ⌜ Stopped glyph (flattened verdict) r ⌝ }
+    ensures { λ r. ⌜ StoppedAt glyph (flattened verdict) r ⌝ }
 {
-    let Flattened::Refused(why, tokens) = verdict else {
+    let Flattened::Refused(why) = verdict else {
         return Survey::Flat(0);
     };
-    Survey::Refused(glyph, why, tokens)
+    Survey::Refused(glyph, why)
 }

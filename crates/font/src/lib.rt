@@ -12,8 +12,7 @@ use index::check_list;
 use index_writing::IndexWritten;
 use index_writing::write_index;
 use reading::Profile;
-use reading::Refusal;
-use reading::number_of;
+use reading::Stopped;
 ghost use mathlib.Core.Path.{_≡_};
 ghost use mathlib.Core.Bool.{Bool, true};
 ghost use Prim.Native.Nat.{_≤_};
@@ -34,8 +33,8 @@ pub enum FontFlattened {
     BadLocals(Flaw),
     // The CharStrings INDEX is not well formed, and why.
     BadCharstrings(Flaw),
-    // The first glyph that is refused: its number, why, and at which token.
-    Refused(u32, Refusal, u32),
+    // The first glyph that is refused: its number, and why.
+    Refused(u32, Stopped),
     // The last offset is over 4294967295.
     TooLong,
     // So many bytes are needed.
@@ -52,7 +51,7 @@ impl FontFlattened {
             FontFlattened::BadGlobals(_) => 1,
             FontFlattened::BadLocals(_) => 2,
             FontFlattened::BadCharstrings(_) => 26,
-            FontFlattened::Refused(_, why, _) => number_of(why),
+            FontFlattened::Refused(_, why) => why.number(),
             FontFlattened::TooLong => 23,
             FontFlattened::NoRoom(_) => 13,
         }
@@ -113,7 +112,7 @@ fn flatten_all<'a>(
         &mut joined,
     );
     match survey {
-        Survey::Refused(glyph, why, tokens) => FontFlattened::Refused(glyph, why, tokens),
+        Survey::Refused(glyph, why) => FontFlattened::Refused(glyph, why),
         Survey::Flat(sum) => {
             if all_kept(count, sum, lengths.len(), joined.len()) {
                 return write_kept(count, sum, &lengths, &joined, out);

@@ -1,12 +1,15 @@
 -- What is told of an answer that is known. Assumes nothing.
-use mathlib.Core.Path.{_≡_, sym, ap, _∙_}
+use mathlib.Core.Path.{_≡_, refl, sym, ap, _∙_}
 use Prim.Native.Nat.{ℕ}
 use mathlib.Core.List.{List}
-use Rattle.number.specs.Answer.{Values, Answer, accepted, refused, numberIn, entryOr, Outcome, leaving}
+use Rattle.number.specs.Answer.{Values, Answer, accepted, refused, numberIn, tokensOr, entryOr, Outcome, leaving}
 use Rattle.index.specs.Formed.{reasonOf, reasonAt}
 use Rattle.index.specs.declared.list.Flaw.{Flaw}
+use Rattle.reading.specs.Answers.{stopValues}
+use Rattle.reading.specs.declared.Stopped.{Stopped}
+use Rattle.reading.specs.declared.Stopped.the-variants.{At, Alone}
 use Rattle.number.specs.AnswerLaws.{answer-as, left-as}
-use Rattle.ighzamrel.specs.Told.{Told, told, tell}
+use Rattle.ighzamrel.specs.Told.{Told, told, tell, FlatPlaces, flatPlacesOr}
 
 module _ {A P : Type 0} (set : P → A → P) (setBy : P → Values → P) where
   -- by the answer's number
@@ -32,6 +35,21 @@ module _ {A P : Type 0} (set : P → A → P) (setBy : P → Values → P) where
 -- the number of a result that is known
 pub number-as : {E A : Type 0} (says : E → Answer A) {n : ℕ} {r w : E} → r ≡ w → n ≡ numberIn (says r) → n ≡ numberIn (says w)
 number-as says k e = e ∙ ap (λ x. numberIn (says x)) k
+
+-- what is told of a run's refusal: the tokens t that come with it
+pub stop-told : {P : Type 0} (n : ℕ) (left : List ℕ) (places : ℕ → P) (old : ℕ) (w : Stopped) {t : ℕ} → t ≡ tokensOr old (stopValues w)
+    → leaving (told n (places t)) left ≡ leaving (told n (places (tokensOr old (stopValues w)))) left
+stop-told n left places old w e = rw e
+
+-- and nothing else comes with it
+abbrev withTokens : FlatPlaces → ℕ → FlatPlaces
+withTokens old t = record { length = old .length; tokens = t; entry = old .entry; reason = old .reason }
+
+pub stop-alone : (n : ℕ) (left : List ℕ) (old : FlatPlaces) (w : Stopped)
+    → leaving (told n (withTokens old (tokensOr (old .tokens) (stopValues w)))) left ≡ leaving (told n (flatPlacesOr old (stopValues w))) left
+unfolding tokensOr entryOr
+stop-alone n left old (At k t) = refl
+stop-alone n left old (Alone k) = refl
 
 -- what is told of a list's flaw: the entry i that comes with it, and its number k
 pub flaw-told : {P : Type 0} (n : ℕ) (left : List ℕ) (places : ℕ → ℕ → P) (old : ℕ) (f : Flaw) {i k : ℕ}

@@ -4,16 +4,17 @@ use charstring::flatten;
 use index::Flaw;
 use reading::Flattened;
 use reading::Profile;
+use reading::Stopped;
 ghost use mathlib.Core.Path.{_≡_};
 ghost use Rattle.reading.specs.Rules.{rulesOf};
-ghost use Rattle.reading.specs.Answers.{flattening};
+ghost use Rattle.reading.specs.Answers.{stopValues, flattening};
 ghost use Rattle.index.specs.Formed.{reasonOf, reasonAt};
-ghost use Rattle.number.specs.Answer.{entryOr, leaving};
+ghost use Rattle.number.specs.Answer.{tokensOr, entryOr, leaving};
 ghost use Rattle.ighzamrel.specs.Told.{profileOf, told, tellFlattening};
 
 // Flattens a charstring with its two subroutine lists into the start of out: 0, the flat string's
-// length and the tokens; 13 and the same two; 3 to 12 and the tokens; or 1 or 2 and the reason, which
-// is 20 or 21, or 40, 41 or 42 with the number of the first entry that is absent.
+// length and the tokens; 13 and the same two; 3 to 12 and the tokens; 15, in strict, alone; or 1 or 2 and
+// the reason, which is 20 or 21, or 40, 41 or 42 with the number of the first entry that is absent.
 #[no_mangle]
 pub extern "C" fn ighzamrel_flatten<'a>(
     charstring: &'a [u8],
@@ -64,8 +65,8 @@ pub extern "C" fn ighzamrel_flatten<'a>(
             tell_flaw(flaw, entry, reason);
             flattened.number()
         }
-        Flattened::Refused(_, count) => {
-            *tokens = count;
+        Flattened::Refused(why) => {
+            tell_stop(why, tokens);
             flattened.number()
         }
         Flattened::NoRoom(n, count) => {
@@ -73,6 +74,15 @@ pub extern "C" fn ighzamrel_flatten<'a>(
             *tokens = count;
             flattened.number()
         }
+    }
+}
+
+// Tells the tokens of a run's refusal, where they come with it.
+pub(crate) fn tell_stop(why: Stopped, tokens: &mut u32)
+    ensures { λ _. ⌜ now (tokens .exit) ≡ tokensOr (now (tokens .entry)) (stopValues why) ⌝ }
+{
+    if let Stopped::At(_, count) = why {
+        *tokens = count;
     }
 }
 

@@ -1,6 +1,7 @@
 // Flattening a whole font.
 use crate::flattening::profile_of;
 use crate::flattening::tell_flaw;
+use crate::flattening::tell_stop;
 use font::FontFlattened;
 use font::flatten_font;
 ghost use mathlib.Core.Path.{_≡_};
@@ -10,8 +11,8 @@ ghost use Rattle.font.specs.Font.{flattenFont};
 ghost use Rattle.ighzamrel.specs.Told.{profileOf, told, tellFont};
 
 // Flattens each glyph of a CharStrings INDEX with the two subroutine lists, and writes the INDEX of the flat strings to the start
-// of out: 0 and its length; 13 and the same; 3 to 12, the number of the first glyph that is refused, and its tokens; 1, 2 or 26
-// and the reason, as `ighzamrel_flatten` gives it; or 23.
+// of out: 0 and its length; 13 and the same; 3 to 12, the number of the first glyph that is refused, and its tokens; 15, in strict,
+// and that number; 1, 2 or 26 and the reason, as `ighzamrel_flatten` gives it; or 23.
 #[no_mangle]
 pub extern "C" fn ighzamrel_flatten_font<'a>(
     charstrings: &'a [u8],
@@ -68,9 +69,9 @@ pub extern "C" fn ighzamrel_flatten_font<'a>(
             tell_flaw(flaw, entry, reason);
             flattened.number()
         }
-        FontFlattened::Refused(number, _, count) => {
+        FontFlattened::Refused(number, why) => {
             *glyph = number;
-            *tokens = count;
+            tell_stop(why, tokens);
             flattened.number()
         }
         FontFlattened::TooLong => flattened.number(),

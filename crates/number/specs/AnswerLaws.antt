@@ -36,6 +36,18 @@ pub into-refused : {A : Type 0} (out : List ℕ) (n : ℕ) (v : Values) → into
 unfolding into
 into-refused out n v = refl
 
+abbrev placed : {A : Type 0} → List ℕ → Ready A → Bool → Outcome (Answer A)
+placed out r t = cond t (leaving (accepted (r .told)) (r .bytes ++ drop (length (r .bytes)) out)) (leaving (refused 13 (r .short)) out)
+
+-- bytes that are ready are refused with 13 only
+pub into-other : {A B : Type 0} (out : List ℕ) (r : Ready A) (k : ℕ) (v : Values) → (k ≡ 13 → ⊥) → into out (accepted r) .answer ≡ refused k v → B
+unfolding into
+into-other {A} {B} out r k v h e = by-room (leb (length (r .bytes)) (length out)) e
+  where
+    by-room : (t : Bool) → placed out r t .answer ≡ refused k v → B
+    by-room true q = refused-accepted (sym q)
+    by-room false q = let same : 13 ≡ k = cc in absurd (h (sym same))
+
 -- what an accepted outcome says
 pub record Placed {A : Type 0} (out : List ℕ) (x : Answer (Ready A)) (y : A) : Type 0 where
   pub ready : Ready A
@@ -43,9 +55,6 @@ pub record Placed {A : Type 0} (out : List ℕ) (x : Answer (Ready A)) (y : A) :
   pub told-is : ready .told ≡ y
   pub fits : length (ready .bytes) ≤ length out
   pub left-is : into out x .left ≡ ready .bytes ++ drop (length (ready .bytes)) out
-
-abbrev placed : {A : Type 0} → List ℕ → Ready A → Bool → Outcome (Answer A)
-placed out r t = cond t (leaving (accepted (r .told)) (r .bytes ++ drop (length (r .bytes)) out)) (leaving (refused 13 (r .short)) out)
 
 pub into-accepted : {A : Type 0} (out : List ℕ) (x : Answer (Ready A)) (y : A) → into out x .answer ≡ accepted y → Placed out x y
 unfolding into

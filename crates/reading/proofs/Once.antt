@@ -65,6 +65,7 @@ rules-back r =
       hints = r .hints;
       ends = ends-back (r .kind);
       exact = r .exact;
+      clean = r .clean;
       width = cond (eqb (r .width) 2) Two Four;
     }
 
@@ -77,6 +78,7 @@ rules-undo r =
       hints = r .hints;
       ends = ends-undo (r .ends) i;
       exact = r .exact;
+      clean = r .clean;
       width = width-undo (r .width) i;
     }
 

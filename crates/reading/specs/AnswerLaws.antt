@@ -3,8 +3,8 @@ use mathlib.Core.Path.{_≡_, refl, sym, ap, subst, _∙_}
 use mathlib.Core.List.{List, _++_}
 use Prim.Native.Nat.{ℕ, _<_, _≤_}
 use lib.ListN.{length, drop}
-use Rattle.number.specs.Answer.{Answer, accepted, refused, atToken, Outcome, leaving, Ready, into}
-use Rattle.number.specs.AnswerLaws.{refused-accepted, accepted-same, answer-as, Placed, into-accepted}
+use Rattle.number.specs.Answer.{Values, Answer, accepted, refused, atToken, Outcome, leaving, Ready, into}
+use Rattle.number.specs.AnswerLaws.{refused-accepted, accepted-same, answer-as, Placed, into-accepted, into-other}
 use Rattle.index.specs.Formed.{formation}
 use Rattle.reading.specs.Rules.{Rules}
 use Rattle.reading.specs.Lists.{listsOf}
@@ -58,6 +58,26 @@ module _ (out : List ℕ) (r : Run) (x : Flattening) where
   outcome-took : outcome out r .answer ≡ accepted x → Took out r x (outcome out r .left)
   unfolding outcome
   outcome-took q = ready-took (r .how) refl (into-accepted out (readyBy r (r .how)) x q)
+
+-- a refusal that is neither a list's nor the room's is the run's
+ready-stopped : (out : List ℕ) (r : Run) (k : ℕ) (v : Values) → (k ≡ 13 → ⊥) → (e : Ending) → into out (readyBy r e) .answer ≡ refused k v → e ≡ stopped k
+unfolding readyBy into
+ready-stopped out r k v h (stopped n) q = let same : n ≡ k = cc in ap stopped same
+ready-stopped out r k v h back q = into-other out (flatReady r) k v h q
+ready-stopped out r k v h ended q = into-other out (flatReady r) k v h q
+
+gate-other : (j : ℕ) (out : List ℕ) (f : Answer ℕ) (y : Outcome (Answer Flattening)) (k : ℕ) (v : Values) → (k ≡ j → ⊥)
+    → listGate j out f y .answer ≡ refused k v → y .answer ≡ refused k v
+unfolding listGate
+gate-other j out (accepted n) y k v h q = q
+gate-other j out (refused i u) y k v h q = let same : j ≡ k = cc in absurd (h (sym same))
+
+pub run-stopped : (rules : Rules) (cs globals locals : List ℕ) (budget : ℕ) (out : List ℕ) (k : ℕ) (v : Values) → (k ≡ 1 → ⊥) → (k ≡ 2 → ⊥)
+    → (k ≡ 13 → ⊥) → flattening rules cs globals locals budget out .answer ≡ refused k v → original rules cs globals locals budget .how ≡ stopped k
+unfolding flattening outcome
+run-stopped rules cs globals locals budget out k v one two room q =
+    let r = original rules cs globals locals budget in
+    ready-stopped out r k v room (r .how) (gate-other 2 out _ _ k v two (gate-other 1 out _ _ k v one q))
 
 -- an accepted run has as many tokens as it has shown
 pub accepted-tokens : (e : Ending) (n : ℕ) → Accepted e → tokensBy n e ≡ n

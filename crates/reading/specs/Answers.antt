@@ -1,15 +1,19 @@
 -- What flattening answers and leaves (RULES, "How a charstring runs", "Refusals").
 use Prim.Native.Nat.{ℕ}
+use mathlib.Core.Bool.{cond}
 use mathlib.Core.List.{List}
+use lib.Dec.{leb}
 use lib.ListN.{length}
-use Rattle.number.specs.Answer.{Answer, accepted, refused, atToken, needingAt, because, mapped, Outcome, leaving, Ready, into}
+use Rattle.number.specs.Answer.{Values, Answer, accepted, refused, alone, atToken, needingAt, because, mapped, Outcome, leaving, Ready, into}
 use Rattle.index.specs.Formed.{formation, reasonOf, reasonAt}
 use Rattle.reading.specs.Rules.{Rules}
 use Rattle.reading.specs.Reading.{Ending, back, ended, stopped, Run, struck, tokens, original}
 use Rattle.reading.specs.Flat.{flat}
 use Rattle.reading.specs.declared.Refusal.{Refusal}
 use Rattle.reading.specs.declared.Refusal.the-variants.{BudgetSpent, BytesLacking, TooManyOperands, UnknownOperator}
-use Rattle.reading.specs.declared.Refusal.the-variants.{NoIndex, IndexNotLast, NoEntry, TooDeep, TooManyHints, Composite}
+use Rattle.reading.specs.declared.Refusal.the-variants.{NoIndex, IndexNotLast, NoEntry, TooDeep, TooManyHints, Composite, OperandsAtMask}
+use Rattle.reading.specs.declared.Stopped.{Stopped}
+use Rattle.reading.specs.declared.Stopped.the-variants.{At, Alone}
 use Rattle.reading.specs.declared.Flattened.{Flattened}
 use Rattle.reading.specs.declared.Flattened.the-variants.{Accepted, BadGlobals, BadLocals, Refused, NoRoom}
 
@@ -28,11 +32,15 @@ flatReady r =
     let n = length (flatOf r) in
     record { bytes = flatOf r; told = record { size = n; tokens = tokens r }; short = needingAt n (tokens r) }
 
+-- what comes with a run's refusal: the tokens with 3 to 12, and nothing with a later number
+abbrev pub comesWith : ℕ → ℕ → Values
+comesWith k t = cond (leb k 12) (atToken t) alone
+
 -- by how a run ended
 unfoldable pub readyBy : Run → Ending → Answer (Ready Flattening)
 readyBy r back = accepted (flatReady r)
 readyBy r ended = accepted (flatReady r)
-readyBy r (stopped k) = refused k (atToken (tokens r))
+readyBy r (stopped k) = refused k (comesWith k (tokens r))
 
 -- the verdict on a run, whatever the room
 unfoldable pub verdict : Run → Answer Flattening
@@ -68,10 +76,20 @@ numberOf NoEntry = 9
 numberOf TooDeep = 10
 numberOf TooManyHints = 11
 numberOf Composite = 12
+numberOf OperandsAtMask = 15
+
+-- a run's refusal: its number, and what comes with it
+abbrev pub stopNumber : Stopped → ℕ
+stopNumber (At k t) = numberOf k
+stopNumber (Alone k) = numberOf k
+
+abbrev pub stopValues : Stopped → Values
+stopValues (At k t) = atToken t
+stopValues (Alone k) = alone
 
 abbrev pub flattened : Flattened → Answer Flattening
 flattened (Accepted n t) = accepted (record { size = n; tokens = t })
 flattened (BadGlobals f) = refused 1 (because (reasonOf f) (reasonAt f))
 flattened (BadLocals f) = refused 2 (because (reasonOf f) (reasonAt f))
-flattened (Refused k t) = refused (numberOf k) (atToken t)
+flattened (Refused w) = refused (stopNumber w) (stopValues w)
 flattened (NoRoom n t) = refused 13 (needingAt n t)

@@ -12,7 +12,7 @@ use Rattle.reading.specs.Lists.{Lists}
 use Rattle.reading.specs.Tokens.{cut}
 use Rattle.reading.specs.Reading.{State, start, closed, Ending, back, ended, stopped, Accepted, Run, tokensBy, tokens}
 use Rattle.reading.specs.Reading.{Step, halt, go, enter, refuse, onCut, onToken, resume, after, tokensOf, read, reading}
-use Rattle.reading.specs.StepLaws.{Begun, declines, goes, pushes, stems, clears, masks, enters, returns, ends, Stepped, spent, begun, token-is}
+use Rattle.reading.specs.StepLaws.{Begun, declines, goes, pushes, stems, clears, masks, enters, returns, ends, Stepped, spent, begun, begun-not-three, token-is}
 use Rattle.reading.specs.RunLaws.{Led, Kept, kept}
 
 -- how many tokens a state has shown
@@ -38,11 +38,11 @@ module _ (rules : Rules) (lists : Lists) (budget : ℕ) where
   module _ (levels at : ℕ) (bytes : List ℕ) (s : State) (h : count s < budget) where
     under-begun : (x : Step) → Begun rules lists levels at bytes s x → Led rules lists budget Anything Under Counted levels x
     unfolding tokensBy
-    under-begun x (declines n k) = rw (ne-eqb n 3 k) (omega arith)
+    under-begun x (declines n k) = rw (ne-eqb n 3 (begun-not-three rules s n k)) (omega arith)
     under-begun x (goes y (pushes o rest q l)) = (tt, omega arith)
     under-begun x (goes y (stems p rest q k l)) = (tt, omega arith)
     under-begun x (goes y (clears p rest q k)) = (tt, omega arith)
-    under-begun x (goes y (masks p rest q k l m)) = (tt, omega arith)
+    under-begun x (goes y (masks p rest q k w l m)) = (tt, omega arith)
     under-begun x (goes y (enters p rest c ops body q k a o e f l u)) = (l, (tt, (tt, omega arith)))
     under-begun x (goes y (returns p rest q k)) = omega arith
     under-begun x (goes y (ends p rest q k l)) = omega arith
@@ -177,7 +177,7 @@ module _ (rules : Rules) (lists : Lists) (b b′ : ℕ) where
     grown-begun x (goes y (pushes o rest q l)) = (refl, tt)
     grown-begun x (goes y (stems p rest q k l)) = (refl, tt)
     grown-begun x (goes y (clears p rest q k)) = (refl, tt)
-    grown-begun x (goes y (masks p rest q k l m)) = (refl, tt)
+    grown-begun x (goes y (masks p rest q k w l m)) = (refl, tt)
     grown-begun x (goes y (enters p rest c ops body q k a o e f l u)) = (refl, l)
     grown-begun x (goes y (returns p rest q k)) = ((omega arith, λ c. refl), tt)
     grown-begun x (goes y (ends p rest q k l)) = ((omega arith, λ c. refl), tt)

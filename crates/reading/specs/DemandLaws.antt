@@ -1,15 +1,18 @@
 -- The demands, proved: each theorem has the type that Demands.antt states. Assumes nothing.
 use mathlib.Core.Path.{sym, ap, subst, _∙_}
 use mathlib.Core.List.{List}
+use native.Mathlib.Omega.{arith}
 use Rattle.reading.specs.Rules.{plain, strict}
+use Rattle.reading.specs.Lists.{listsOf}
 use Rattle.reading.specs.Items.{Item}
 use Rattle.reading.specs.Flat.{Straight, straight}
-use Rattle.reading.specs.Masks.{StemsFirst, ByNote}
-use Rattle.reading.specs.Demands.{SameGlyph, DemandThree, MasksByNote, WithinBudget, EnoughBudget, SmallBudget, StrictThenPlain}
-use Rattle.reading.specs.AnswerLaws.{answer-within, answer-enough, answer-short, answer-looser}
+use Rattle.reading.specs.Masks.{StemsFirst, ByNote, CleanMasks}
+use Rattle.reading.specs.Demands.{SameGlyph, DemandThree, MasksByNote, MasksClean, NeverEight, WithinBudget, EnoughBudget, SmallBudget, StrictThenPlain}
+use Rattle.reading.specs.AnswerLaws.{answer-within, answer-enough, answer-short, answer-looser, run-stopped}
 use Rattle.reading.specs.TighterLaws.{strict-tighter}
-use Rattle.reading.specs.SameGlyphLaws.{whole-items, reported-is, shown-is, same-items}
+use Rattle.reading.specs.SameGlyphLaws.{whole-items, reported-is, items-are, same-items, lists-bytes}
 use Rattle.reading.specs.MaskLaws.{whole-note}
+use Rattle.reading.specs.CleanLaws.{whole-clean, run-not-eight}
 
 pub demand-three : DemandThree
 demand-three rules cs globals locals budget out x bytes g l a =
@@ -18,10 +21,18 @@ demand-three rules cs globals locals budget out x bytes g l a =
 
 pub masks-by-note : MasksByNote
 masks-by-note rules cs globals locals budget out x bytes g l a =
-    let at-run = ap (λ (f : List _). straight rules f .items) (reported-is rules cs globals locals budget out x bytes g l a)
-    ∙ ap (λ (y : Straight). y .items) (shown-is rules cs globals locals budget out x bytes g l a) in
-    subst (λ (f : List Item). StemsFirst rules f → ByNote rules f) (sym at-run)
+    subst (λ (f : List Item). StemsFirst rules f → ByNote rules f) (sym (items-are rules cs globals locals budget out x bytes g l a))
     (whole-note rules _ (whole-items rules cs globals locals budget out x bytes g l a))
+
+pub masks-clean : MasksClean
+masks-clean rules cs globals locals budget out x bytes g l a clean =
+    subst CleanMasks (sym (items-are rules cs globals locals budget out x bytes g l a))
+    (whole-clean rules clean _ (whole-items rules cs globals locals budget out x bytes g l a))
+
+pub never-eight : NeverEight
+never-eight rules cs globals locals budget out v bytes g l clean q =
+    run-not-eight rules clean (listsOf (rules .width) globals locals) budget (lists-bytes (rules .width) globals locals g l) cs bytes
+    (run-stopped rules cs globals locals budget out 8 v (λ e. omega arith) (λ e. omega arith) (λ e. omega arith) q)
 
 pub within-budget : WithinBudget
 within-budget rules cs globals locals budget out x bytes g l a = answer-within rules cs globals locals budget out x a

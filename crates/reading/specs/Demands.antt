@@ -4,15 +4,16 @@ use Prim.Native.Nat.{ℕ, _<_, _≤_}
 use mathlib.Core.Path.{_≡_}
 use mathlib.Core.Bool.{Bool, true, false}
 use mathlib.Core.List.{List, [], _∷_, _++_}
+use mathlib.Core.Logic.{_⊎_}
 use lib.ListN.{length, take, drop, replicate}
-use Rattle.number.specs.Answer.{accepted, refused, atToken, leaving}
+use Rattle.number.specs.Answer.{Values, accepted, refused, atToken, leaving}
 use Rattle.reading.specs.Rules.{Rules, plain, strict}
 use Rattle.reading.specs.Tokens.{Bytes}
 use Rattle.reading.specs.Items.{Item, operand, bare, masked}
 use Rattle.reading.specs.Reading.{struck, original}
 use Rattle.reading.specs.Flat.{straight}
 use Rattle.reading.specs.Answers.{Flattening, flattening}
-use Rattle.reading.specs.Masks.{StemsFirst, ByNote}
+use Rattle.reading.specs.Masks.{StemsFirst, ByNote, CleanMasks}
 use Rattle.reading.specs.declared.Kind.{Kind}
 use Rattle.reading.specs.declared.Kind.the-variants.{Stem, Clear, Mask, Call, Return, End, Unknown}
 
@@ -79,6 +80,11 @@ abbrev pub MasksByNote : Type 0
 MasksByNote = OfAccepted (λ rules cs globals locals budget out x.
     let shown = straight rules (reported rules cs globals locals budget out x) .items in StemsFirst rules shown → ByNote rules shown)
 
+-- and by clean rules operands wait in F at no mask behind one with bytes
+abbrev pub MasksClean : Type 0
+MasksClean = OfAccepted (λ rules cs globals locals budget out x.
+    rules .clean ≡ true → CleanMasks (straight rules (reported rules cs globals locals budget out x) .items))
+
 -- demand 1's budget: the tokens are at most the budget; a budget of at least the tokens changes nothing; a smaller one is refused with 3
 abbrev pub WithinBudget : Type 0
 WithinBudget = OfAccepted (λ rules cs globals locals budget out x. x .tokens ≤ budget)
@@ -99,6 +105,12 @@ StrictThenPlain =
 
 -- ---- of every refused run
 
--- its number: the refusals 3 to 12
+-- its number: 3 to 12, or 15
 abbrev pub RunRefusal : ℕ → Type 0
-RunRefusal k = (3 ≤ k) × (k ≤ 12)
+RunRefusal k = (3 ≤ k) × ((k ≤ 12) ⊎ (k ≡ 15))
+
+-- by clean rules never 8: an index that waits stands last
+abbrev pub NeverEight : Type 0
+NeverEight =
+    (rules : Rules) (cs globals locals : List ℕ) (budget : ℕ) (out : List ℕ) (v : Values) → Bytes cs → Bytes globals → Bytes locals
+    → rules .clean ≡ true → flattening rules cs globals locals budget out .answer ≡ refused 8 v → ⊥

@@ -1,10 +1,10 @@
 -- Items, which a flat string is made of, and what they leave behind: the operands that wait, the hints, and the mask length
 -- (RULES, "How a charstring runs"; TN5177, section 4.3).
 use Prim.Native.Nat.{ℕ, _+_, _/_}
-use mathlib.Core.Bool.{cond}
+use mathlib.Core.Bool.{Bool, cond, _&&_}
 use mathlib.Core.List.{List, [], _∷_}
 use lib.ListN.{length, drop}
-use lib.Dec.{eqb}
+use lib.Dec.{eqb, ltb}
 use Rattle.number.specs.declared.Operand.{Operand}
 use Rattle.reading.specs.Rules.{Rules}
 use Rattle.reading.specs.declared.Operator.{Operator}
@@ -44,6 +44,10 @@ counted x = record { operands = []; hints = hintsWith x; mask = x .mask }
 -- while the length is 0 a mask counts hints as a stem does, and fixes it; afterwards it changes nothing, and the operands stay
 abbrev pub atMask : Left → Left
 atMask x = cond (eqb (x .mask) 0) (record { operands = []; hints = hintsWith x; mask = (hintsWith x + 7) / 8 }) x
+
+-- whether operands wait at a mask whose length is fixed, against the rules
+abbrev pub leftOver : Rules → Left → Bool
+leftOver rules x = rules .clean && (ltb 0 (x .mask) && ltb 0 (length (x .operands)))
 
 -- what an operator leaves, by its kind
 unfoldable pub byKind : Kind → Left → Left

@@ -20,5 +20,6 @@ pub mod StraightLaws
 pub mod AnswerLaws
 pub mod SameGlyphLaws
 pub mod MaskLaws
+pub mod CleanLaws
 pub mod DemandLaws
 pub mod Rows

@@ -93,14 +93,14 @@ module _ (rules : Rules) where
   tied f (number-behind o g p l v) s = tied-number g o (tied g v s)
   tied f (stem-behind p g c k l v) s = tied-stem g p k (s .0) (tied g v (s .1))
   tied f (clear-behind p g c k v) s = tied-clear g p k (tied g v (s .1))
-  tied f (mask-behind p m g c k l n v) s = tied-mask g p m n (tied g v s)
+  tied f (mask-behind p m g c k w l n v) s = tied-mask g p m n (tied g v s)
 
   valid-note : (f : List Item) → Valid rules f → StemsFirst rules f → ByNote rules f
   valid-note f none s = tt
   valid-note f (number-behind o g p l v) s = valid-note g v s
   valid-note f (stem-behind p g c k l v) s = valid-note g v (s .1)
   valid-note f (clear-behind p g c k v) s = valid-note g v (s .1)
-  valid-note f (mask-behind p m g c k l n v) s = (n ∙ mask-now g (tied g v s), valid-note g v s)
+  valid-note f (mask-behind p m g c k w l n v) s = (n ∙ mask-now g (tied g v s), valid-note g v s)
 
   pub whole-note : (f : List Item) → Whole rules f → StemsFirst rules f → ByNote rules f
   whole-note f (open-ended g v) s = valid-note g v s

@@ -45,6 +45,13 @@ declared rules (masked p m ∷ f) = cond (hasMask f) (declared rules f) (declare
 unfoldable pub maskBytes : Rules → List Item → ℕ
 maskBytes rules f = (cond (hasMask f) (declared rules f) (declared rules f + waiting f / 2) + 7) / 8
 
+-- no operand waits at a mask behind one with bytes: only before it may they, as stems
+abbrev pub CleanMasks : List Item → Type 0
+CleanMasks [] = Unit {0}
+CleanMasks (operand o ∷ f) = CleanMasks f
+CleanMasks (bare p ∷ f) = CleanMasks f
+CleanMasks (masked p m ∷ f) = (hasMask f ≡ true → waiting f ≡ 0) × CleanMasks f
+
 -- TN5177 has all stems before the first mask: no stem operator behind a mask with bytes
 abbrev pub StemsFirst : Rules → List Item → Type 0
 StemsFirst rules [] = Unit {0}

@@ -11,7 +11,7 @@ use Rattle.number.specs.declared.Operand.{Operand}
 use Rattle.reading.specs.Rules.{Rules}
 use Rattle.reading.specs.Lists.{Lists, Subrs, Entry, present, absent, listed, listsOf}
 use Rattle.reading.specs.Tokens.{number, operator, Cut, token, lacking, cut}
-use Rattle.reading.specs.Items.{Item, operand, bare, masked, Left, nothing, pushed, popped, cleared, counted, atMask}
+use Rattle.reading.specs.Items.{Item, operand, bare, masked, Left, nothing, pushed, popped, cleared, counted, atMask, leftOver}
 use Rattle.reading.specs.declared.Operator.{Operator}
 use Rattle.reading.specs.declared.Which.{Which}
 use Rattle.reading.specs.declared.Kind.{Kind}
@@ -119,8 +119,9 @@ module _ (rules : Rules) (rest : List ℕ) (s : State) where
   onMask p =
       let x = atMask (s .left) in
       let n = x .mask in
-      hinted x
-      (cond (leb n (length rest)) (go (drop n rest) (shows (masked p (take n rest)) x s)) (refuse 4 s))
+      cond (leftOver rules (s .left)) (refuse 15 s)
+      (hinted x
+      (cond (leb n (length rest)) (go (drop n rest) (shows (masked p (take n rest)) x s)) (refuse 4 s)))
 
   unfoldable pub onEnd : Operator → Step
   onEnd p = cond (ltb (length (s .left .operands)) 4) (halt ended (shows (bare p) (s .left) s)) (refuse 12 s)

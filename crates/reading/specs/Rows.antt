@@ -1,4 +1,4 @@
--- The starred rows (RULES, "Examples"), proved as one list; and lists of ours: what those rows miss, refusals that compete, a third rule set.
+-- The starred rows (RULES, "Examples"), proved as one list; and lists of ours: what those rows miss, refusals that compete, masks in strict, a third rule set.
 use mathlib.Core.Path.{_≡_, refl}
 use mathlib.Core.List.{List, [], _∷_, _++_}
 use mathlib.Core.Bool.{Bool, true, false}
@@ -143,7 +143,7 @@ more =
 
 -- plain, without a level below the charstring
 abbrev shallow : Rules
-shallow = record { operands = 48; levels = 0; hints = 65535; exact = false; width = 2; kind = type2 }
+shallow = record { operands = 48; levels = 0; hints = 65535; exact = false; clean = false; width = 2; kind = type2 }
 
 -- an operand in front of a mask whose length is fixed, and a call behind it: the index does not stand last
 abbrev behindMask : List ℕ → List ℕ
@@ -170,13 +170,47 @@ competing =
     ∷ within plain 48 32 (replicate 48 0x8B ++ (0x1C ∷ 0x00 ∷ [])) none none (refuses 3 (atToken 48))
     ∷ []
 
+-- ---- masks in strict
+
+abbrev strictly : List ℕ → List ℕ → Expected → Row
+strictly cs locals e = within strict 1000 32 cs none locals e
+
+-- a mask fixes the length, and then these
+abbrev fixed : List ℕ → List ℕ
+fixed more = 0x8B ∷ 0x8C ∷ 0x01 ∷ 0x13 ∷ 0x80 ∷ more
+
+abbrev late15 : List ℕ
+late15 = fixed (0x8B ∷ 0x13 ∷ 0x80 ∷ 0x0E ∷ [])
+
+abbrev pub masksInStrict : List Row
+masksInStrict =
+    -- 15 alone: at 19 and at 20, with one operand and with 48; plain takes the same
+    strictly late15 none (refuses 15 alone)
+    ∷ row late15 none (gives late15 7)
+    ∷ strictly (fixed (0x8B ∷ 0x14 ∷ 0x80 ∷ [])) none (refuses 15 alone)
+    ∷ strictly (fixed (replicate 48 0x8B ++ (0x13 ∷ 0x80 ∷ []))) none (refuses 15 alone)
+    -- in a subroutine, and by an operand that one left
+    ∷ strictly (fixed (0x20 ∷ 0x0A ∷ 0x0E ∷ [])) (0x00 ∷ 0x01 ∷ 0x01 ∷ 0x01 ∷ 0x05 ∷ 0x8B ∷ 0x13 ∷ 0x80 ∷ 0x0B ∷ []) (refuses 15 alone)
+    ∷ strictly (fixed (0x20 ∷ 0x0A ∷ 0x13 ∷ 0x80 ∷ 0x0E ∷ [])) (0x00 ∷ 0x01 ∷ 0x01 ∷ 0x01 ∷ 0x03 ∷ 0x8B ∷ 0x0B ∷ []) (refuses 15 alone)
+    -- before 4, behind 3, and in place of 8
+    ∷ strictly (fixed (0x8B ∷ 0x13 ∷ [])) none (refuses 15 alone)
+    ∷ row (fixed (0x8B ∷ 0x13 ∷ [])) none (refuses 4 (atToken 6))
+    ∷ within strict 5 32 late15 none none (refuses 3 (atToken 5))
+    ∷ within strict 6 32 late15 none none (refuses 15 alone)
+    ∷ strictly (behindMask (0x20 ∷ [])) L (refuses 15 alone)
+    -- the first mask takes operands, also behind one without bytes; a later one may come without
+    ∷ strictly (0x8B ∷ 0x8C ∷ 0x13 ∷ 0x80 ∷ 0x0E ∷ []) none (gives (0x8B ∷ 0x8C ∷ 0x13 ∷ 0x80 ∷ 0x0E ∷ []) 4)
+    ∷ strictly (0x13 ∷ 0x8B ∷ 0x8C ∷ 0x13 ∷ 0x80 ∷ 0x0E ∷ []) none (gives (0x13 ∷ 0x8B ∷ 0x8C ∷ 0x13 ∷ 0x80 ∷ 0x0E ∷ []) 5)
+    ∷ strictly (fixed (0x13 ∷ 0x80 ∷ 0x0E ∷ [])) none (gives (fixed (0x13 ∷ 0x80 ∷ 0x0E ∷ [])) 6)
+    ∷ []
+
 -- ---- a third rule set
 
 -- no profile's: a value of the code's record, and the runner's proof is over any such value
 abbrev pub third : CodeRules
-third = record { operands = 513; levels = 10; hints = 96; ends = false; exact = true; width = Four }
+third = record { operands = 513; levels = 10; hints = 96; ends = false; exact = true; clean = false; width = Four }
 
-pub third-meant : meant third ≡ record { operands = 513; levels = 10; hints = 96; exact = true; width = 4; kind = kindBy false }
+pub third-meant : meant third ≡ record { operands = 513; levels = 10; hints = 96; exact = true; clean = false; width = 4; kind = kindBy false }
 third-meant = refl
 
 abbrev noneWide : List ℕ
@@ -199,8 +233,8 @@ thirds =
     ∷ byThird (replicate 49 0x8B ++ (0x05 ∷ [])) (gives (replicate 49 0x8B ++ (0x05 ∷ [])) 50)
     ∷ []
 
--- one theorem over the reading's definition for all four lists
-pub rows-hold : All starred × All more × All competing × All thirds
+-- one theorem over the reading's definition for all five lists
+pub rows-hold : All starred × All more × All competing × All masksInStrict × All thirds
 unfolding expectedBy into readyBy outcome listGate flattening
     beAt bytesOf signed unsigned integerRows rowsOf rowOf valueBy numberBy readBy formBy spell bytes bytesBy spelling
     bitLength counts callIndex entryOf biased callee
@@ -212,6 +246,7 @@ rows-hold = (
   (refl, (refl, (refl, (refl, (refl, (refl, (refl, (refl, (refl, (refl, (refl, (refl, (refl, (refl, (refl, tt))))))))))))))),
   (refl, (refl, (refl, (refl, (refl, (refl, (refl, (refl, (refl, (refl, (refl, (refl, (refl, (refl, (refl, (refl, tt)))))))))))))))),
   (refl, (refl, (refl, (refl, (refl, (refl, (refl, (refl, tt)))))))),
+  (refl, (refl, (refl, (refl, (refl, (refl, (refl, (refl, (refl, (refl, (refl, (refl, (refl, (refl, tt)))))))))))))),
   (refl, (refl, (refl, (refl, tt)))),
 )
 

@@ -18,6 +18,7 @@ pub record Rules : Type 0 where
   pub levels : ℕ  -- how many levels of calls there may be below the charstring, which is itself at depth 1
   pub hints : ℕ  -- how many stem hints there may be
   pub exact : Bool  -- whether a Fixed index must be whole exactly, or as f32 rounds it
+  pub clean : Bool  -- whether no operand may wait at a mask whose length is fixed
   pub width : ℕ  -- how many bytes the count of a list has
   pub kind : Operator → Kind  -- what an operator is
 
@@ -52,11 +53,11 @@ abbrev pub type2 : Operator → Kind
 type2 = kindBy true
 
 abbrev pub plain : Rules
-plain = record { operands = 48; levels = 63; hints = 65535; exact = false; width = 2; kind = type2 }
+plain = record { operands = 48; levels = 63; hints = 65535; exact = false; clean = false; width = 2; kind = type2 }
 
--- TN5177, appendix B: ten nested calls, and 96 stem hints
+-- TN5177, appendix B: ten nested calls, and 96 stem hints; section 4.3: operands at a mask only as stems, before the first
 abbrev pub strict : Rules
-strict = record { operands = 48; levels = 10; hints = 96; exact = true; width = 2; kind = type2 }
+strict = record { operands = 48; levels = 10; hints = 96; exact = true; clean = true; width = 2; kind = type2 }
 
 abbrev pub rulesOf : Profile → Rules
 rulesOf Plain = plain
@@ -70,6 +71,7 @@ meant r =
       levels = r .levels;
       hints = r .hints;
       exact = r .exact;
+      clean = r .clean;
       width = widthOf (r .width);
       kind = kindBy (r .ends);
     }

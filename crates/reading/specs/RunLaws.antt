@@ -82,7 +82,7 @@ module _ (rules : Rules) (lists : Lists) (levels at : ℕ) (bytes : List ℕ) (s
   fewer-begun x (goes y (pushes o rest q h)) = cut-fewer bytes (number o) rest q
   fewer-begun x (goes y (stems p rest q k h)) = cut-fewer bytes (operator p) rest q
   fewer-begun x (goes y (clears p rest q k)) = cut-fewer bytes (operator p) rest q
-  fewer-begun x (goes y (masks p rest q k h l)) = let f = cut-fewer bytes (operator p) rest q in omega (arith, length-drop (atMask (s .left) .mask) rest)
+  fewer-begun x (goes y (masks p rest q k w h l)) = let f = cut-fewer bytes (operator p) rest q in omega (arith, length-drop (atMask (s .left) .mask) rest)
   fewer-begun x (goes y (enters p rest c ops body q k a h e f l u)) = cut-fewer bytes (operator p) rest q
   fewer-begun x (goes y (returns p rest q k)) = tt
   fewer-begun x (goes y (ends p rest q k h)) = tt

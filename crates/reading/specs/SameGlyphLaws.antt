@@ -38,7 +38,7 @@ module _ (rules : Rules) where
   valid-flat f (number-behind o g p l v) = (refl, valid-flat g v)
   valid-flat f (stem-behind p g c k l v) = (ap leads k, valid-flat g v)
   valid-flat f (clear-behind p g c k v) = (ap leads k, valid-flat g v)
-  valid-flat f (mask-behind p m g c k l n v) = (ap leads k, valid-flat g v)
+  valid-flat f (mask-behind p m g c k w l n v) = (ap leads k, valid-flat g v)
 
   whole-flat : (f : List Item) → Whole rules f → Flat rules f
   whole-flat f (open-ended g v) = valid-flat g v
@@ -195,6 +195,9 @@ module _ (rules : Rules) (cs globals locals : List ℕ) (budget : ℕ) (out : Li
 
   pub shown-is : straight rules (flatOf run) ≡ record { items = items; rest = [] }
   shown-is = same-glyph rules lists budget cs entries bytes (took .accepted-run)
+
+  pub items-are : straight rules (reported rules cs globals locals budget out x) .items ≡ items
+  items-are = ap (λ (f : List ℕ). straight rules f .items) reported-is ∙ ap (λ (y : Straight). y .items) shown-is
 
   enough : length items ≤ x .tokens
   enough = subst (λ (n : ℕ). length items ≤ n) (sym (took .tokens-are)) (items-tokens rules lists budget cs entries bytes (took .accepted-run))

@@ -44,7 +44,7 @@ module _ (rules : Rules) where
   mask-most f (number-behind o g p l v) = mask-most g v
   mask-most f (stem-behind p g c k l v) = rw k (mask-most g v)
   mask-most f (clear-behind p g c k v) = rw k (mask-most g v)
-  mask-most f (mask-behind p m g c k l n v) = at-mask (leftBy rules g) (mask-most g v) l
+  mask-most f (mask-behind p m g c k w l n v) = at-mask (leftBy rules g) (mask-most g v) l
 
   operator-most : (p : Operator) → length (operatorBytes p) ≤ 2
   operator-most p = go (p .escaped)
@@ -70,7 +70,7 @@ module _ (rules : Rules) where
   valid-most f (number-behind o g p l v) = more g (operand o) (valid-most g v) (let h = spelling-most false o in omega arith)
   valid-most f (stem-behind p g c k l v) = more g (bare p) (valid-most g v) (bare-most p)
   valid-most f (clear-behind p g c k v) = more g (bare p) (valid-most g v) (bare-most p)
-  valid-most f (mask-behind p m g c k l n v) =
+  valid-most f (mask-behind p m g c k w l n v) =
       let h = operator-most p in
       let w = at-mask (leftBy rules g) (mask-most g v) l in
       more g (masked p m) (valid-most g v) (omega (arith, length-append (operatorBytes p) m))

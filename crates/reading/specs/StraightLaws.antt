@@ -15,7 +15,7 @@ use Rattle.number.specs.declared.Operand.{Operand}
 use Rattle.reading.specs.Rules.{Rules}
 use Rattle.reading.specs.Lists.{Lists}
 use Rattle.reading.specs.Tokens.{number, token, cutBy, cut}
-use Rattle.reading.specs.Items.{Item, operand, bare, masked, Left, pushed, cleared, counted, atMask, byKind, leaves, leftBy}
+use Rattle.reading.specs.Items.{Item, operand, bare, masked, Left, pushed, cleared, counted, atMask, leftOver, byKind, leaves, leftBy}
 use Rattle.reading.specs.Reading.{
   Shown,
   item,
@@ -118,7 +118,7 @@ module _ (rules : Rules) where
   valid-straight f (number-behind o g p l v) fuel z = back-behind g (operand o) (valid-straight g v) (number-back g o p) fuel z
   valid-straight f (stem-behind p g c k l v) fuel z = back-behind g (bare p) (valid-straight g v) (bare-back g p c Stem k refl) fuel z
   valid-straight f (clear-behind p g c k v) fuel z = back-behind g (bare p) (valid-straight g v) (bare-back g p c Clear k refl) fuel z
-  valid-straight f (mask-behind p m g c k l n v) fuel z = back-behind g (masked p m) (valid-straight g v) (mask-back g p m c k n) fuel z
+  valid-straight f (mask-behind p m g c k w l n v) fuel z = back-behind g (masked p m) (valid-straight g v) (mask-back g p m c k n) fuel z
 
   whole-straight : (f : List Item) → Whole rules f → AllBack f
   whole-straight f (open-ended g v) = valid-straight g v
@@ -135,7 +135,7 @@ module _ (rules : Rules) where
   valid-fewer f (number-behind o g p l v) = item-some g (operand o) (valid-fewer g v) (spelling-some false o p)
   valid-fewer f (stem-behind p g c k l v) = item-some g (bare p) (valid-fewer g v) (operator-some p)
   valid-fewer f (clear-behind p g c k v) = item-some g (bare p) (valid-fewer g v) (operator-some p)
-  valid-fewer f (mask-behind p m g c k l n v) = item-some g (masked p m) (valid-fewer g v) (some (operatorBytes p) m (operator-some p))
+  valid-fewer f (mask-behind p m g c k w l n v) = item-some g (masked p m) (valid-fewer g v) (some (operatorBytes p) m (operator-some p))
 
   whole-fewer : (f : List Item) → Whole rules f → length f ≤ length (flat f)
   unfolding spelled
@@ -236,11 +236,10 @@ module _ (rules : Rules) where
         clear-again k fuel z =
             led (bare p) (cleared (leftBy rules f)) fuel (operatorBytes p ++ z) z (there z) (bare-leaves Clear k) (clears p z (c z) k)
 
-        mask-again : (m : List ℕ) → rules .kind p ≡ Mask → atMask (leftBy rules f) .hints ≤ rules .hints
-            → length m ≡ atMask (leftBy rules f) .mask
-            → OneAgain f (masked p m)
+        mask-again : (m : List ℕ) → rules .kind p ≡ Mask → leftOver rules (leftBy rules f) ≡ false
+            → atMask (leftBy rules f) .hints ≤ rules .hints → length m ≡ atMask (leftBy rules f) .mask → OneAgain f (masked p m)
         unfolding spelled leaves
-        mask-again m k l n fuel z =
+        mask-again m k w l n fuel z =
             let bytes = operatorBytes p ++ (m ++ z) in
             let x = atMask (leftBy rules f) in
             let fits : x .mask ≤ length (m ++ z) = omega (arith, length-append m z) in
@@ -248,7 +247,7 @@ module _ (rules : Rules) where
             ∙ led (masked p m) x fuel bytes z (there (m ++ z)) refl
             (subst (λ (y : List ℕ). Leads f bytes (go y (shows (masked p m) x (stateOf f)))) (drop-at m z (x .mask) n)
             (subst (λ (y : List ℕ). Leads f bytes (go (drop (x .mask) (m ++ z)) (shows (masked p y) x (stateOf f)))) (take-at m z (x .mask) n)
-            (masks p (m ++ z) (c (m ++ z)) k l fits)))
+            (masks p (m ++ z) (c (m ++ z)) k w l fits)))
 
     abbrev AllAgain : List Item → Type 0
     AllAgain f = (fuel : ℕ) (z : List ℕ) → runs (fuel + length f) (flat f ++ z) start ≡ runs fuel z (stateOf f)
@@ -271,8 +270,8 @@ module _ (rules : Rules) where
         again-behind g (bare p) (valid-again g v (omega arith)) (stem-again g h p c k l) fuel z
     valid-again f (clear-behind p g c k v) h fuel z =
         again-behind g (bare p) (valid-again g v (omega arith)) (clear-again g h p c k) fuel z
-    valid-again f (mask-behind p m g c k l n v) h fuel z =
-        again-behind g (masked p m) (valid-again g v (omega arith)) (mask-again g h p c m k l n) fuel z
+    valid-again f (mask-behind p m g c k w l n v) h fuel z =
+        again-behind g (masked p m) (valid-again g v (omega arith)) (mask-again g h p c m k w l n) fuel z
 
     ran-out : (fuel : ℕ) (s : State) → runs fuel [] s ≡ record { how = back; state = s }
     unfolding tokensOf

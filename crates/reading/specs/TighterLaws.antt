@@ -1,7 +1,7 @@
 -- Of two rule sets the tighter one accepts no more: where it accepts, the other does, with the same run. So where strict accepts, plain gives the
 -- same. Assumes nothing.
 use mathlib.Core.Path.{_≡_, refl, sym, ap, subst, _∙_}
-use mathlib.Core.Bool.{Bool, true, false}
+use mathlib.Core.Bool.{Bool, true, false, _&&_}
 use mathlib.Core.List.{List, [], _∷_}
 use Prim.Native.Nat.{ℕ, zero, suc, _-_, _≤_}
 use native.Mathlib.Nat.{le-refl}
@@ -41,12 +41,13 @@ pub record Tighter (a b : Rules) : Type 0 where
   pub levels : a .levels ≤ b .levels
   pub hints : a .hints ≤ b .hints
   pub exact : b .exact ≡ true → a .exact ≡ true
+  pub clean : b .clean ≡ true → a .clean ≡ true
   pub width : a .width ≡ b .width
   pub kind : (p : Operator) → a .kind p ≡ b .kind p
 
 -- strict and plain differ in nothing else
 pub strict-tighter : Tighter strict plain
-strict-tighter = record { operands = le-refl 48; levels = lit≤ tt; hints = lit≤ tt; exact = λ e. refl; width = refl; kind = λ p. refl }
+strict-tighter = record { operands = le-refl 48; levels = lit≤ tt; hints = lit≤ tt; exact = λ e. refl; clean = λ e. refl; width = refl; kind = λ p. refl }
 
 loose-callee : (t u : Bool) → (u ≡ true → t ≡ true) → (n : ℕ) (o : Operand) (k : ℕ)
     → callee t n o ≡ accepted k → callee u n o ≡ accepted k
@@ -54,6 +55,12 @@ loose-callee true true h n o k e = e
 loose-callee true false h n o k e = exact-callee n o k e
 loose-callee false true h n o k e = let z : false ≡ true = h refl in subst (λ (x : Bool). callee x n o ≡ accepted k) z e
 loose-callee false false h n o k e = e
+
+loose-over : (t u x : Bool) → (u ≡ true → t ≡ true) → (t && x) ≡ false → (u && x) ≡ false
+loose-over true true x h e = e
+loose-over true false x h e = refl
+loose-over false true x h e = let z : false ≡ true = h refl in subst (λ (y : Bool). (y && x) ≡ false) z e
+loose-over false false x h e = refl
 
 -- where the tighter run f is accepted, the other is the same
 abbrev Follows : (List ℕ → State → Run) → (List ℕ → State → Run) → Type 0
@@ -66,7 +73,8 @@ module _ (a b : Rules) (t : Tighter a b) (lists : Lists) (budget : ℕ) where
     taken x (pushes o rest q l) = pushes o rest q (let h = t .operands in omega arith)
     taken x (stems p rest q k l) = stems p rest q (sym (t .kind p) ∙ k) (let h = t .hints in omega arith)
     taken x (clears p rest q k) = clears p rest q (sym (t .kind p) ∙ k)
-    taken x (masks p rest q k l m) = masks p rest q (sym (t .kind p) ∙ k) (let h = t .hints in omega arith) m
+    taken x (masks p rest q k w l m) =
+        masks p rest q (sym (t .kind p) ∙ k) (loose-over (a .clean) (b .clean) _ (t .clean) w) (let h = t .hints in omega arith) m
     taken x (enters p rest c ops body q k w o e f l u) =
         enters p rest c ops body q (sym (t .kind p) ∙ k) w o (loose-callee (a .exact) (b .exact) (t .exact) _ _ _ e) f (λ z. l (omega arith)) u
     taken x (returns p rest q k) = returns p rest q (sym (t .kind p) ∙ k)
@@ -76,7 +84,7 @@ module _ (a b : Rules) (t : Tighter a b) (lists : Lists) (budget : ℕ) where
     entered x (pushes o rest q l) = tt
     entered x (stems p rest q k l) = tt
     entered x (clears p rest q k) = tt
-    entered x (masks p rest q k l m) = tt
+    entered x (masks p rest q k w l m) = tt
     entered x (enters p rest c ops body q k w o e f l u) = l
     entered x (returns p rest q k) = tt
     entered x (ends p rest q k l) = tt

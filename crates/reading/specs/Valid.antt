@@ -9,7 +9,7 @@ use Rattle.number.specs.declared.Operand.{Operand}
 use Rattle.reading.specs.Rules.{Rules}
 use Rattle.reading.specs.Lists.{Lists, present, listed}
 use Rattle.reading.specs.Tokens.{operator, token, cut, Bytes}
-use Rattle.reading.specs.Items.{Item, operand, bare, masked, counted, atMask, leftBy}
+use Rattle.reading.specs.Items.{Item, operand, bare, masked, counted, atMask, leftOver, leftBy}
 use Rattle.reading.specs.Reading.{Shown, item, call, return, struck, State, Ending, back, ended, stopped}
 use Rattle.reading.specs.Flat.{operatorBytes}
 use Rattle.reading.specs.declared.Operator.{Operator}
@@ -33,8 +33,8 @@ pub data Valid (rules : Rules) : List Item → Type 0 where
   stem-behind : (p : Operator) (f : List Item) → Cuttable p → rules .kind p ≡ Stem → counted (leftBy rules f) .hints ≤ rules .hints → Valid rules f
       → Valid rules (bare p ∷ f)
   clear-behind : (p : Operator) (f : List Item) → Cuttable p → rules .kind p ≡ Clear → Valid rules f → Valid rules (bare p ∷ f)
-  mask-behind : (p : Operator) (m : List ℕ) (f : List Item) → Cuttable p → rules .kind p ≡ Mask → atMask (leftBy rules f) .hints ≤ rules .hints
-      → length m ≡ atMask (leftBy rules f) .mask → Valid rules f → Valid rules (masked p m ∷ f)
+  mask-behind : (p : Operator) (m : List ℕ) (f : List Item) → Cuttable p → rules .kind p ≡ Mask → leftOver rules (leftBy rules f) ≡ false
+      → atMask (leftBy rules f) .hints ≤ rules .hints → length m ≡ atMask (leftBy rules f) .mask → Valid rules f → Valid rules (masked p m ∷ f)
 
 -- what an accepted run ends in: valid items, and perhaps an endchar behind them
 pub data Whole (rules : Rules) : List Item → Type 0 where

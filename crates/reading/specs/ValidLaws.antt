@@ -13,7 +13,7 @@ use Rattle.reading.specs.Rules.{Rules}
 use Rattle.reading.specs.Lists.{Lists, present, listed}
 use Rattle.reading.specs.Tokens.{number, operator, token, cut, Bytes}
 use Rattle.reading.specs.CutLaws.{cut-off, bytes-drop}
-use Rattle.reading.specs.Items.{Item, operand, bare, masked, Left, pushed, popped, cleared, counted, atMask, byKind, leaves, leftBy}
+use Rattle.reading.specs.Items.{Item, operand, bare, masked, Left, pushed, popped, cleared, counted, atMask, leftOver, byKind, leaves, leftBy}
 use Rattle.reading.specs.Reading.{Entering, item, call, return, struck, State, shows}
 use Rattle.reading.specs.Reading.{start, Ending, back, ended, stopped, Step, endsInOperand, reading}
 use Rattle.reading.specs.Valid.{Cuttable, Valid, none, number-behind, stem-behind, clear-behind, mask-behind, Whole, open-ended, end-behind}
@@ -56,12 +56,13 @@ module _ (rules : Rules) (s : State) (g : Good rules s) where
     unfolding byKind
     clear-good k = shown-good (bare p) (cleared (s .left)) (leaves-bare p Clear k) (clear-behind p (struck (s .shown)) c k (g .valid))
 
-    mask-good : (m : List ℕ) → rules .kind p ≡ Mask → atMask (s .left) .hints ≤ rules .hints → length m ≡ atMask (s .left) .mask
-        → Good rules (shows (masked p m) (atMask (s .left)) s)
+    mask-good : (m : List ℕ) → rules .kind p ≡ Mask → leftOver rules (s .left) ≡ false → atMask (s .left) .hints ≤ rules .hints
+        → length m ≡ atMask (s .left) .mask → Good rules (shows (masked p m) (atMask (s .left)) s)
     unfolding leaves
-    mask-good m k l n =
+    mask-good m k w l n =
         shown-good (masked p m) (atMask (s .left)) refl
-        (mask-behind p m (struck (s .shown)) c k (subst (λ (x : Left). atMask x .hints ≤ rules .hints) (sym (g .agree)) l)
+        (mask-behind p m (struck (s .shown)) c k (subst (λ (x : Left). leftOver rules x ≡ false) (sym (g .agree)) w)
+        (subst (λ (x : Left). atMask x .hints ≤ rules .hints) (sym (g .agree)) l)
         (subst (λ (x : Left). length m ≡ atMask x .mask) (sym (g .agree)) n) (g .valid))
 
     end-good : rules .kind p ≡ End → length (s .left .operands) < 4
@@ -122,10 +123,10 @@ module _ (rules : Rules) (lists : Lists) (budget : ℕ) (entries : ByteLists lis
     good-goes x (pushes o rest q l) = let c = cut-off (number o) rest bytes h q in (c .behind, number-good rules s g o (c .sound) l)
     good-goes x (stems p rest q k l) = let c = operator-cut p rest q in (c .1, stem-good rules s g p (c .0) k l)
     good-goes x (clears p rest q k) = let c = operator-cut p rest q in (c .1, clear-good rules s g p (c .0) k)
-    good-goes x (masks p rest q k l m) =
+    good-goes x (masks p rest q k w l m) =
         let c = operator-cut p rest q in
         let n = atMask (s .left) .mask in
-        (bytes-drop n rest (c .1), mask-good rules s g p (c .0) (take n rest) k l (length-take-le n rest m))
+        (bytes-drop n rest (c .1), mask-good rules s g p (c .0) (take n rest) k w l (length-take-le n rest m))
     good-goes x (enters p rest c ops body q k a o e f l u) =
         (l, (entries (c .list) (c .entry) body f, (operator-cut p rest q .1, call-good rules s g c ops o u)))
     good-goes x (returns p rest q k) = return-good rules s g

@@ -5,7 +5,7 @@ use index::Width;
 ghost use mathlib.Core.Path.{_≡_};
 ghost use Rattle.number.specs.Answer.{numberIn};
 ghost use Rattle.reading.specs.Rules.{meant, rulesOf};
-ghost use Rattle.reading.specs.Answers.{numberOf, flattened};
+ghost use Rattle.reading.specs.Answers.{numberOf, stopNumber, flattened};
 
 // An operator: whether it stands behind the escape byte 12, and its byte.
 pub struct Operator {
@@ -53,6 +53,8 @@ pub struct Rules {
     pub ends: bool,
     // Whether a Fixed index must be whole exactly, or as f32 rounds it.
     pub exact: bool,
+    // Whether no operand may wait at a mask whose length is fixed.
+    pub clean: bool,
     // How many bytes the count of a list has.
     pub width: Width,
 }
@@ -68,6 +70,7 @@ pub fn rules_of(profile: Profile) -> Rules
             hints: 65535,
             ends: true,
             exact: false,
+            clean: false,
             width: Width::Two,
         },
         Profile::Strict => Rules {
@@ -76,12 +79,13 @@ pub fn rules_of(profile: Profile) -> Rules
             hints: 96,
             ends: true,
             exact: true,
+            clean: true,
             width: Width::Two,
         },
     }
 }
 
-// Why a run stopped: the refusals 3 to 12.
+// Why a run stopped: the refusals 3 to 12, and 15.
 pub enum Refusal {
     BudgetSpent,
     BytesLacking,
@@ -93,6 +97,7 @@ pub enum Refusal {
     TooDeep,
     TooManyHints,
     Composite,
+    OperandsAtMask,
 }
 
 // The number of a run's refusal.
@@ -110,6 +115,27 @@ pub fn number_of(why: Refusal) -> u32
         Refusal::TooDeep => 10,
         Refusal::TooManyHints => 11,
         Refusal::Composite => 12,
+        Refusal::OperandsAtMask => 15,
+    }
+}
+
+// A run's refusal, with what comes with it.
+pub enum Stopped {
+    // 3 to 12, and the tokens.
+    At(Refusal, u32),
+    // 15, which comes alone.
+    Alone(Refusal),
+}
+
+impl Stopped {
+    // Its number.
+    pub fn number(self) -> u32
+        ensures { λ r. ⌜ r ≡ stopNumber self ⌝ }
+    {
+        match self {
+            Stopped::At(why, _) => number_of(why),
+            Stopped::Alone(why) => number_of(why),
+        }
     }
 }
 
@@ -121,8 +147,8 @@ pub enum Flattened {
     BadGlobals(Flaw),
     // The local list is not well formed, and why.
     BadLocals(Flaw),
-    // The run was refused at this token.
-    Refused(Refusal, u32),
+    // The run was refused.
+    Refused(Stopped),
     // The flat string has this length, which is more than the room; and the tokens.
     NoRoom(usize, u32),
 }
@@ -136,7 +162,7 @@ impl Flattened {
             Flattened::Accepted(_, _) => 0,
             Flattened::BadGlobals(_) => 1,
             Flattened::BadLocals(_) => 2,
-            Flattened::Refused(why, _) => number_of(why),
+            Flattened::Refused(why) => why.number(),
             Flattened::NoRoom(_, _) => 13,
         }
     }

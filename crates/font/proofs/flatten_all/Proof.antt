@@ -4,8 +4,8 @@ use mathlib.Core.List.{List}
 use Prim.Native.Nat.{ℕ, _≤_}
 use native.Mathlib.Omega.{arith}
 use lib.ListN.{length}
-use Rattle.number.specs.Answer.{Answer, refused, atToken, atGlyph}
-use Rattle.reading.specs.Answers.{numberOf}
+use Rattle.number.specs.Answer.{Answer, refused, atGlyph}
+use Rattle.reading.specs.Answers.{stopNumber, stopValues}
 use Rattle.font.specs.Font.{allFrom}
 use Rattle.font.specs.Code.{glyphsOf, Measured, Held, Kept}
 use Rattle.font.specs.PassLaws.{kept-all, whole-adds}
@@ -102,7 +102,7 @@ returns-2 c =
     let s = c .before .before .before .before .before .before .before .before .before .before .before .before in
     let g = glyphsOf (s .args .profile) (s .args .charstrings .now) (s .args .globals .now) (s .args .locals .now) (s .args .budget) in
     let known = c .before .survey .given .0 in
-    let told : refused (numberOf (known .1 .0)) (atGlyph (known .0) (atToken (known .1 .1 .0)))
+    let told : refused (stopNumber (known .1 .0)) (atGlyph (known .0) (stopValues (known .1 .0)))
     ≡ allFrom g 0 (s .args .count) = rw (c .before .survey .given .1) at (c .before .before .before .before .before .measure-all .ensures) in
     stopped-all g (s .args .count) 0 (s .args .out .now) _ _ told
 

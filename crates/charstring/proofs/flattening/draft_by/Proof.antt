@@ -41,8 +41,8 @@ enum-told-2 c = search needs
 enum-known-how : tie.Need-enum-known-how
 enum-known-how c = search needs
 
-counted-requires : tie.Need-counted-requires
-counted-requires c κs =
+stopped-by-requires : tie.Need-stopped-by-requires
+stopped-by-requires c κs =
     let at-run = c .before .before .before .before .before .before .before .before in
     let start = at-run .before .before .before .before .before .before .before .before .before .before in
     few-tokens _ _ _ _ _ (ran at-run) _ (c .before .how .given .1) (start .args .budget) (tokens-budget _ _ _ _) (start .fits .budget .fits)
@@ -74,7 +74,7 @@ same-length-6 c = search needs
 returns-3 : tie.Need-returns-3
 returns-3 c =
     let d = ran (c .before .before .before .before .before .before .before .before .before) in
-    (was-stopped _ _ _ _ _ d _ (c .before .before .how .given .1) _ (c .counted .ensures), d .bytes)
+    (was-stopped _ _ _ _ _ d _ (c .before .before .how .given .1) _ (c .stopped-by .ensures), d .bytes)
 
 pub draft-by-spec : {M : Type 1} → statement M
 draft-by-spec =
@@ -86,7 +86,7 @@ draft-by-spec =
     enum-told
     enum-told-2
     enum-known-how
-    counted-requires
+    stopped-by-requires
     same-length
     same-length-2
     returns

@@ -26,7 +26,7 @@ refused-so : (out : List ℕ) (x : Run) (r : Flattened) → OneOf Refusals (tagO
 refused-so out x (Accepted n t) k e = absurd (miss Refusals 0 tt k)
 refused-so out x (BadGlobals f) k e = by-refusal out x _ _ e
 refused-so out x (BadLocals f) k e = by-refusal out x _ _ e
-refused-so out x (Refused w t) k e = by-refusal out x _ _ e
+refused-so out x (Refused w) k e = by-refusal out x _ _ e
 refused-so out x (NoRoom n t) k e = by-refusal out x _ _ e
 
 -- an accepted verdict is the reading's

@@ -1,6 +1,6 @@
 -- `ighzamrel_flatten` tells what `flatten` answers, and leaves what it leaves. Assumes nothing.
 use Rattle.ighzamrel.specs.Told.{FlatPlaces, profileOf, tell}
-use Rattle.ighzamrel.specs.ToldLaws.{tell-left, flaw-told}
+use Rattle.ighzamrel.specs.ToldLaws.{tell-left, stop-told, stop-alone, flaw-told}
 use Rattle.number.specs.Answer.{Answer, tokensOr, entryOr, Outcome, leaving}
 use Rattle.reading.specs.Answers.{Flattening, flattened, flattening}
 use Rattle.reading.specs.Rules.{rulesOf}
@@ -31,6 +31,10 @@ before c =
 -- and with an entry and a reason
 abbrev with : tie.Start → ℕ → ℕ → FlatPlaces
 with c i k = let a = c .args in record { length = a .length .now; tokens = a .tokens .now; entry = i; reason = k }
+
+-- and with the tokens
+abbrev ran : tie.Start → ℕ → FlatPlaces
+ran c t = let a = c .args in record { length = a .length .now; tokens = t; entry = a .entry .now; reason = a .reason .now }
 
 profile-of-requires : tie.Need-profile-of-requires
 profile-of-requires c κs = search needs
@@ -64,6 +68,9 @@ number-requires-3 c κs = search needs
 
 enum-known-flattened-4 : tie.Need-enum-known-flattened-4
 enum-known-flattened-4 c = search needs
+
+tell-stop-requires : tie.Need-tell-stop-requires
+tell-stop-requires c κs = search needs
 
 number-requires-4 : tie.Need-number-requires-4
 number-requires-4 c κs = search needs
@@ -114,8 +121,13 @@ same-length-4 c = search needs
 returns-4 : tie.Need-returns-4
 unfolding tell tokensOr entryOr
 returns-4 c =
-    tell-left _ _ flattened _ (c .before .before .flattened4 .given .1) _ (c .number4 .ensures)
-    (asked (c .before .before .before .before .before .before))
+    let at-tell = c .before in
+    let at-flattened = at-tell .before .before .before in
+    let at-flatten = at-flattened .before .before .before .before in
+    let why = at-flattened .flattened4 .given .0 .0 in
+    stop-told _ _ (ran (start at-flatten)) (before (start at-flatten) .tokens) why (at-tell .tell-stop .ensures)
+    ∙ stop-alone _ _ (before (start at-flatten)) why
+    ∙ tell-left _ _ flattened _ (at-flattened .flattened4 .given .1) _ (c .number4 .ensures) (asked at-flatten)
 
 same-length-5 : tie.Need-same-length-5
 same-length-5 c = search needs
@@ -141,6 +153,7 @@ ighzamrel-flatten-spec =
     tell-flaw-requires-2
     number-requires-3
     enum-known-flattened-4
+    tell-stop-requires
     number-requires-4
     enum-known-flattened-5
     number-requires-5

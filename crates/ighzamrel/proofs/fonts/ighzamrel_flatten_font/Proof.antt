@@ -1,6 +1,6 @@
 -- `ighzamrel_flatten_font` tells what `flatten_font` answers, and leaves what it leaves. Assumes nothing.
 use Rattle.ighzamrel.specs.Told.{FontPlaces, profileOf, tell}
-use Rattle.ighzamrel.specs.ToldLaws.{tell-left, flaw-told, number-as}
+use Rattle.ighzamrel.specs.ToldLaws.{tell-left, stop-told, flaw-told, number-as}
 use Rattle.number.specs.Answer.{Answer, tokensOr, entryOr, Outcome, leaving}
 use Rattle.reading.specs.Rules.{rulesOf}
 use Rattle.reading.specs.declared.Profile.{Profile}
@@ -27,6 +27,10 @@ asked c = c .flatten-font .ensures ∙ ap (asks c) (c .before .before .profile-o
 abbrev with : tie.Start → ℕ → ℕ → FontPlaces
 with c i k =
     let a = c .args in record { length = a .length .now; glyph = a .glyph .now; tokens = a .tokens .now; entry = i; reason = k }
+
+-- and but for a glyph and its tokens
+abbrev ran : tie.Start → ℕ → ℕ → FontPlaces
+ran c i t = let a = c .args in record { length = a .length .now; glyph = i; tokens = t; entry = a .entry .now; reason = a .reason .now }
 
 profile-of-requires : tie.Need-profile-of-requires
 profile-of-requires c κs = search needs
@@ -69,6 +73,9 @@ number-requires-4 c κs = search needs
 
 enum-known-flattened-5 : tie.Need-enum-known-flattened-5
 enum-known-flattened-5 c = search needs
+
+tell-stop-requires : tie.Need-tell-stop-requires
+tell-stop-requires c κs = search needs
 
 number-requires-5 : tie.Need-number-requires-5
 number-requires-5 c κs = search needs
@@ -139,8 +146,12 @@ same-length-5 c = search needs
 returns-5 : tie.Need-returns-5
 unfolding tell tokensOr entryOr
 returns-5 c =
-    tell-left _ _ fontFlattened _ (c .before .before .flattened5 .given .1) _ (c .number5 .ensures)
-    (asked (c .before .before .before .before .before .before))
+    let at-tell = c .before in
+    let at-flattened = at-tell .before .before .before in
+    let at-flatten = at-flattened .before .before .before .before in
+    let known = at-flattened .flattened5 .given .0 in
+    stop-told _ _ (ran (start at-flatten) (known .0)) (start at-flatten .args .tokens .now) (known .1 .0) (at-tell .tell-stop .ensures)
+    ∙ tell-left _ _ fontFlattened _ (at-flattened .flattened5 .given .1) _ (c .number5 .ensures) (asked at-flatten)
 
 same-length-6 : tie.Need-same-length-6
 same-length-6 c = search needs
@@ -178,6 +189,7 @@ ighzamrel-flatten-font-spec =
     tell-flaw-requires-3
     number-requires-4
     enum-known-flattened-5
+    tell-stop-requires
     number-requires-5
     enum-told
     number-requires-6
