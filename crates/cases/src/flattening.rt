@@ -13,6 +13,7 @@ use font::FontFlattened;
 use index::Flaw;
 use reading::Flattened;
 use reading::Profile;
+use reading::Stopped;
 
 // 8: profile, budget, room, charstring, globals, locals. 33: the same of a `whole` font, with its
 // CharStrings INDEX in the charstring's place.
@@ -49,7 +50,7 @@ fn profile(strict: bool) -> Profile {
     Profile::Plain
 }
 
-// `0 N TOKENS HEX`; `1 ENTRY REASON` or `1 REASON`, and the same for 2.
+// `0 N TOKENS HEX`; `1 ENTRY REASON` or `1 REASON`, and the same for 2; `9 TOKENS`, or `15` alone.
 fn flattened(answer: Flattened, room: &[u8]) -> Line {
     let line = Line::of(answer.number());
     match answer {
@@ -58,12 +59,12 @@ fn flattened(answer: Flattened, room: &[u8]) -> Line {
         }
         Flattened::BadGlobals(flaw) => flawed(flaw, line).keeps(room),
         Flattened::BadLocals(flaw) => flawed(flaw, line).keeps(room),
-        Flattened::Refused(_, tokens) => line.value(tokens as u64).keeps(room),
+        Flattened::Refused(why) => stopped(why, line).keeps(room),
         Flattened::NoRoom(n, tokens) => line.value(n as u64).value(tokens as u64).keeps(room),
     }
 }
 
-// `0 N HEX`; `9 GLYPH TOKENS`; 26 as 1 and 2.
+// `0 N HEX`; `9 GLYPH TOKENS` or `15 GLYPH`; 26 as 1 and 2.
 fn font_flattened(answer: FontFlattened, room: &[u8]) -> Line {
     let line = Line::of(answer.number());
     match answer {
@@ -71,12 +72,18 @@ fn font_flattened(answer: FontFlattened, room: &[u8]) -> Line {
         FontFlattened::BadGlobals(flaw) => flawed(flaw, line).keeps(room),
         FontFlattened::BadLocals(flaw) => flawed(flaw, line).keeps(room),
         FontFlattened::BadCharstrings(flaw) => flawed(flaw, line).keeps(room),
-        FontFlattened::Refused(glyph, _, tokens) => {
-            line.value(glyph as u64).value(tokens as u64).keeps(room)
-        }
+        FontFlattened::Refused(glyph, why) => { stopped(why, line.value(glyph as u64)).keeps(room) }
         FontFlattened::TooLong => line.keeps(room),
         FontFlattened::NoRoom(n) => line.value(n as u64).keeps(room),
     }
+}
+
+// The tokens, where they come with a run's refusal.
+fn stopped(why: Stopped, line: Line) -> Line {
+    if let Stopped::At(_, tokens) = why {
+        return line.value(tokens as u64);
+    }
+    line
 }
 
 fn flawed(flaw: Flaw, line: Line) -> Line {

@@ -8,6 +8,7 @@ use libc::STDERR_FILENO;
 use libc::STDOUT_FILENO;
 use reading::Flattened;
 use reading::Refusal;
+use reading::Stopped;
 
 // Tells a reply, over the room that it was lent; `size` is how many bytes came in.
 pub(crate) fn tell(reply: Reply, size: usize, room: &[u8]) {
@@ -63,7 +64,7 @@ fn tell_flattened(flattened: Flattened, room: &[u8]) {
         Flattened::Accepted(n, tokens) => tell_accepted(n, tokens, room),
         Flattened::BadGlobals(flaw) => tell_bad_globals(flaw),
         Flattened::BadLocals(flaw) => tell_bad_locals(flaw),
-        Flattened::Refused(refusal, tokens) => tell_refusal(refusal, tokens),
+        Flattened::Refused(why) => tell_stop(why),
         Flattened::NoRoom(n, tokens) => tell_short(n, tokens),
     }
 }
@@ -76,7 +77,7 @@ fn tell_font(flattened: FontFlattened, room: &[u8]) {
         FontFlattened::BadGlobals(flaw) => tell_bad_globals(flaw),
         FontFlattened::BadLocals(flaw) => tell_bad_locals(flaw),
         FontFlattened::BadCharstrings(flaw) => tell_bad(flaw, b": the CharStrings INDEX's "),
-        FontFlattened::Refused(glyph, refusal, tokens) => tell_glyph(glyph, refusal, tokens),
+        FontFlattened::Refused(glyph, why) => tell_glyph(glyph, why),
         FontFlattened::TooLong => say(
             b": an INDEX to be written has a last offset over 4294967295\n",
         ),
@@ -157,23 +158,40 @@ fn say_short(n: usize) {
     say(b" bytes, and the room 1048576\n");
 }
 
-// The tokens, and the sentence.
-fn tell_refusal(refusal: Refusal, tokens: u32) {
-    say_value(tokens as u64);
-    say_refusal(refusal, tokens);
+// The tokens that come with a run's refusal, and the sentence.
+fn tell_stop(why: Stopped) {
+    say_tokens(why);
+    say_stop(why);
 }
 
-// The glyph and the tokens, and the sentence behind the glyph.
-fn tell_glyph(glyph: u32, refusal: Refusal, tokens: u32) {
+// The glyph before them, and before the sentence.
+fn tell_glyph(glyph: u32, why: Stopped) {
     say_value(glyph as u64);
-    say_value(tokens as u64);
+    say_tokens(why);
     say(b": glyph ");
     count(glyph as u64);
-    say_refusal(refusal, tokens);
+    say_stop(why);
 }
 
-// A refusal's sentence, which ends in the tokens.
-fn say_refusal(refusal: Refusal, tokens: u32) {
+fn say_tokens(why: Stopped) {
+    if let Stopped::At(_, tokens) = why {
+        say_value(tokens as u64);
+    }
+}
+
+// The sentence, and behind it the tokens that come with the refusal.
+fn say_stop(why: Stopped) {
+    match why {
+        Stopped::At(refusal, tokens) => {
+            say_refusal(refusal);
+            count(tokens as u64);
+        }
+        Stopped::Alone(refusal) => say_refusal(refusal),
+    }
+    say(b"\n");
+}
+
+fn say_refusal(refusal: Refusal) {
     match refusal {
         Refusal::BudgetSpent => say(b": the budget is spent after token "),
         Refusal::BytesLacking => say(b": a number, an operator or a mask lacks bytes, at token "),
@@ -195,9 +213,10 @@ fn say_refusal(refusal: Refusal, tokens: u32) {
         Refusal::Composite => say(
             b": endchar has four operands or more, for a glyph made of two others, at token ",
         ),
+        Refusal::OperandsAtMask => say(
+            b": operands wait at a mask whose length is fixed, in strict",
+        ),
     }
-    count(tokens as u64);
-    say(b"\n");
 }
 
 fn say(words: &[u8]) {
