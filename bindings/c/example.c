@@ -1,6 +1,6 @@
 /*
  * One charstring made flat, the same charstring refused, and a list of subroutines that is damaged; then the glyphs of
- * a whole font.
+ * a whole font; and what the strict profile refuses beyond the plain one.
  *
  *     cc example.c $(pkg-config --cflags --libs ighzamrel)
  */
@@ -19,6 +19,7 @@ static const char *in_words(uint32_t answer)
     case IGHZAMREL_BAD_LOCALS: return "the font's list of local subroutines is damaged";
     case IGHZAMREL_BUDGET_SPENT: return "the glyph takes more tokens than it may";
     case IGHZAMREL_NO_ENTRY: return "the glyph calls a subroutine that the font does not have";
+    case IGHZAMREL_OPERANDS_AT_MASK: return "the glyph has operands at a hint mask that takes none";
     case IGHZAMREL_SHORT: return "the result is longer than the room for it";
     case IGHZAMREL_BAD_CHARSTRINGS: return "the font's list of glyphs is damaged";
     default: return "the glyph's charstring is damaged or not supported";
@@ -37,15 +38,18 @@ static void explain_list(uint32_t reason, uint32_t entry)
     }
 }
 
+/* 1 and 2 come with a reason, 3 to 13 with the tokens, and 15 with neither. */
 static void explain(const ighzamrel_flattening *flat)
 {
     printf("refused with %u", (unsigned)flat->answer);
-    if (flat->reason == 0) {
-        printf(" after %u tokens: %s\n", (unsigned)flat->tokens, in_words(flat->answer));
+    if (flat->reason != 0) {
+        printf(": %s: ", in_words(flat->answer));
+        explain_list(flat->reason, flat->entry);
         return;
     }
-    printf(": %s: ", in_words(flat->answer));
-    explain_list(flat->reason, flat->entry);
+    if (flat->answer != IGHZAMREL_OPERANDS_AT_MASK)
+        printf(" after %u tokens", (unsigned)flat->tokens);
+    printf(": %s\n", in_words(flat->answer));
 }
 
 /* a font without such subroutines */
@@ -59,12 +63,13 @@ static void show_bytes(const uint8_t *bytes, size_t n)
     printf("\n");
 }
 
-static void show(const uint8_t *charstring, size_t charstring_len, const uint8_t *locals, size_t locals_len)
+static void show(uint32_t profile, const uint8_t *charstring, size_t charstring_len, const uint8_t *locals,
+                 size_t locals_len)
 {
     uint8_t out[ROOM];
     ighzamrel_flattening flat;
-    if (ighzamrel_flatten_into(charstring, charstring_len, no_list, sizeof no_list, locals, locals_len,
-                               IGHZAMREL_PLAIN, BUDGET, out, sizeof out, &flat) != IGHZAMREL_ACCEPTED) {
+    if (ighzamrel_flatten_into(charstring, charstring_len, no_list, sizeof no_list, locals, locals_len, profile, BUDGET,
+                               out, sizeof out, &flat) != IGHZAMREL_ACCEPTED) {
         explain(&flat);
         return;
     }
@@ -72,11 +77,12 @@ static void show(const uint8_t *charstring, size_t charstring_len, const uint8_t
     show_bytes(out, flat.length);
 }
 
-/* 1, 2 and 26 come with a reason, 3 to 12 with the first glyph that is refused. */
+/* 1, 2 and 26 come with a reason, 3 to 12 and 15 with the first glyph that is refused. */
 static void explain_font(const ighzamrel_font_flattening *flat)
 {
     printf("the font is refused with %u", (unsigned)flat->answer);
-    if (flat->answer >= IGHZAMREL_BUDGET_SPENT && flat->answer <= IGHZAMREL_COMPOSITE)
+    if ((flat->answer >= IGHZAMREL_BUDGET_SPENT && flat->answer <= IGHZAMREL_COMPOSITE) ||
+        flat->answer == IGHZAMREL_OPERANDS_AT_MASK)
         printf(" at glyph %u", (unsigned)flat->glyph);
     printf(": %s", in_words(flat->answer));
     if (flat->reason == 0) {
@@ -87,12 +93,13 @@ static void explain_font(const ighzamrel_font_flattening *flat)
     explain_list(flat->reason, flat->entry);
 }
 
-static void show_font(const uint8_t *charstrings, size_t charstrings_len, const uint8_t *locals, size_t locals_len)
+static void show_font(uint32_t profile, const uint8_t *charstrings, size_t charstrings_len, const uint8_t *locals,
+                      size_t locals_len)
 {
     uint8_t out[ROOM];
     ighzamrel_font_flattening flat;
-    if (ighzamrel_flatten_font_into(charstrings, charstrings_len, no_list, sizeof no_list, locals, locals_len,
-                                    IGHZAMREL_PLAIN, BUDGET, out, sizeof out, &flat) != IGHZAMREL_ACCEPTED) {
+    if (ighzamrel_flatten_font_into(charstrings, charstrings_len, no_list, sizeof no_list, locals, locals_len, profile,
+                                    BUDGET, out, sizeof out, &flat) != IGHZAMREL_ACCEPTED) {
         explain_font(&flat);
         return;
     }
@@ -122,13 +129,20 @@ int main(void)
     static const uint8_t damaged[] = {0x00, 0x03, 0x01, 0x01, 0x02, 0x01, 0x02, 0x0B};
     /* the CharStrings INDEX of a font with three glyphs: endchar, that charstring, and endchar */
     static const uint8_t glyphs[] = {0x00, 0x03, 0x01, 0x01, 0x02, 0x05, 0x06, 0x0E, 0x20, 0x0A, 0x0E, 0x0E};
-    show(charstring, sizeof charstring, locals, sizeof locals);
-    show(charstring, sizeof charstring, no_list, sizeof no_list);
-    show(charstring, sizeof charstring, damaged, sizeof damaged);
+    /* 0 1 hstem, hintmask 80, and a 0 that waits at hintmask 80; and a font with that as its second glyph */
+    static const uint8_t masks[] = {0x8B, 0x8C, 0x01, 0x13, 0x80, 0x8B, 0x13, 0x80, 0x0E};
+    static const uint8_t masked[] = {0x00, 0x02, 0x01, 0x01, 0x02, 0x0B, 0x0E, 0x8B,
+                                     0x8C, 0x01, 0x13, 0x80, 0x8B, 0x13, 0x80, 0x0E};
+    show(IGHZAMREL_PLAIN, charstring, sizeof charstring, locals, sizeof locals);
+    show(IGHZAMREL_PLAIN, charstring, sizeof charstring, no_list, sizeof no_list);
+    show(IGHZAMREL_PLAIN, charstring, sizeof charstring, damaged, sizeof damaged);
     check(locals, sizeof locals);
     check(damaged, sizeof damaged);
-    show_font(glyphs, sizeof glyphs, locals, sizeof locals);
-    show_font(glyphs, sizeof glyphs, no_list, sizeof no_list);
-    show_font(damaged, sizeof damaged, locals, sizeof locals);
+    show_font(IGHZAMREL_PLAIN, glyphs, sizeof glyphs, locals, sizeof locals);
+    show_font(IGHZAMREL_PLAIN, glyphs, sizeof glyphs, no_list, sizeof no_list);
+    show_font(IGHZAMREL_PLAIN, damaged, sizeof damaged, locals, sizeof locals);
+    show(IGHZAMREL_PLAIN, masks, sizeof masks, no_list, sizeof no_list);
+    show(IGHZAMREL_STRICT, masks, sizeof masks, no_list, sizeof no_list);
+    show_font(IGHZAMREL_STRICT, masked, sizeof masked, no_list, sizeof no_list);
     return 0;
 }

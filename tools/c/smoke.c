@@ -223,6 +223,16 @@ struct row {
     const uint8_t *flat;
 };
 
+static void rows_hold(const struct row *rows, size_t n)
+{
+    size_t i;
+    for (i = 0; i < n; i++) {
+        const struct row *r = &rows[i];
+        const ighzamrel_flattening must = {r->answer, r->length, r->tokens, UNTOUCHED, UNTOUCHED};
+        flattened(r->charstring, r->charstring_len, EMPTY, sizeof EMPTY, r->locals, r->locals_len, r->limits, &must, r->flat);
+    }
+}
+
 static void flattening(void)
 {
     static const uint8_t deep[] = {0x00, 0x01, 0x01, 0x01, 0x03, 0x20, 0x0A};
@@ -252,12 +262,29 @@ static void flattening(void)
         {BYTES(0x00), EMPTY, 2, {0, 1000, ROOM}, 6, UNTOUCHED, 1, NULL},
         {BYTES(0x20, 0x0A, 0x0E), EMPTY, 2, {0, 1000, ROOM}, 9, UNTOUCHED, 2, NULL},
     };
-    size_t i;
-    for (i = 0; i < sizeof rows / sizeof rows[0]; i++) {
-        const struct row *r = &rows[i];
-        const ighzamrel_flattening must = {r->answer, r->length, r->tokens, UNTOUCHED, UNTOUCHED};
-        flattened(r->charstring, r->charstring_len, EMPTY, sizeof EMPTY, r->locals, r->locals_len, r->limits, &must, r->flat);
-    }
+    rows_hold(rows, sizeof rows / sizeof rows[0]);
+}
+
+/* An operand that waits at a second mask: plain leaves it there, and strict refuses it with 15, after 3 and before 4, and sets no place. */
+static void masks(void)
+{
+    static const uint8_t waiting[] = {0x8B, 0x8C, 0x01, 0x13, 0x80, 0x8B, 0x14, 0x80, 0x0E};
+    /* operands at a first mask are stems; one without bytes fixes no length */
+    static const uint8_t stems[] = {0x8B, 0x8C, 0x13, 0x80, 0x14, 0x80, 0x0E};
+    static const uint8_t no_bytes[] = {0x13, 0x8B, 0x8C, 0x13, 0x80, 0x0E};
+    const size_t cut = sizeof waiting - 2;
+    const struct row rows[] = {
+        {waiting, sizeof waiting, EMPTY, 2, {0, 1000, ROOM}, 0, sizeof waiting, 7, waiting},
+        {waiting, sizeof waiting, EMPTY, 2, {1, 1000, ROOM}, 15, UNTOUCHED, UNTOUCHED, NULL},
+        {waiting, sizeof waiting, EMPTY, 2, {1, 1000, 0}, 15, UNTOUCHED, UNTOUCHED, NULL},
+        {waiting, sizeof waiting, EMPTY, 2, {1, 5, ROOM}, 3, UNTOUCHED, 5, NULL},
+        {waiting, cut, EMPTY, 2, {0, 6, ROOM}, 4, UNTOUCHED, 6, NULL},
+        {waiting, cut, EMPTY, 2, {1, 6, ROOM}, 15, UNTOUCHED, UNTOUCHED, NULL},
+        {BYTES(0x8B, 0x8C, 0x01, 0x13, 0x80, 0x20, 0x13, 0x80, 0x0A), L, 9, {1, 1000, ROOM}, 15, UNTOUCHED, UNTOUCHED, NULL},
+        {stems, sizeof stems, EMPTY, 2, {1, 1000, ROOM}, 0, sizeof stems, 5, stems},
+        {no_bytes, sizeof no_bytes, EMPTY, 2, {1, 1000, ROOM}, 0, sizeof no_bytes, 5, no_bytes},
+    };
+    rows_hold(rows, sizeof rows / sizeof rows[0]);
 }
 
 /* The three INDEXes of a font: CharStrings, globals and locals. */
@@ -310,6 +337,8 @@ static void fonts(void)
     static const uint8_t three_flat[] = {0x00, 0x03, 0x01, 0x01, 0x05, 0x05, 0x07, 0x8C, 0x8D, 0x15, 0x0E, 0x90, 0x0E};
     /* endchar, -106 callsubr, and a byte that is no operator: the second is the first that is refused */
     static const uint8_t refused[] = {0x00, 0x03, 0x01, 0x01, 0x02, 0x04, 0x05, 0x0E, 0x21, 0x0A, 0x00};
+    /* endchar, and an operand that waits at a second mask: 15 comes with the glyph alone */
+    static const uint8_t waiting[] = {0x00, 0x02, 0x01, 0x01, 0x02, 0x0B, 0x0E, 0x8B, 0x8C, 0x01, 0x13, 0x80, 0x8B, 0x14, 0x80, 0x0E};
     const struct font_row rows[] = {
         {three, sizeof three, {0, 1000, ROOM}, 0, 13, UNTOUCHED, UNTOUCHED, three_flat},
         {three, sizeof three, {1, 7, 13}, 0, 13, UNTOUCHED, UNTOUCHED, three_flat},
@@ -319,6 +348,10 @@ static void fonts(void)
         {refused, sizeof refused, {0, 1000, ROOM}, 9, UNTOUCHED, 1, 2, NULL},
         {refused, sizeof refused, {0, 1000, 0}, 9, UNTOUCHED, 1, 2, NULL},
         {refused, sizeof refused, {0, 1, ROOM}, 3, UNTOUCHED, 1, 1, NULL},
+        {waiting, sizeof waiting, {0, 1000, ROOM}, 0, sizeof waiting, UNTOUCHED, UNTOUCHED, waiting},
+        {waiting, sizeof waiting, {1, 1000, ROOM}, 15, UNTOUCHED, 1, UNTOUCHED, NULL},
+        {waiting, sizeof waiting, {1, 1000, 0}, 15, UNTOUCHED, 1, UNTOUCHED, NULL},
+        {waiting, sizeof waiting, {1, 5, ROOM}, 3, UNTOUCHED, 1, 5, NULL},
         {EMPTY, sizeof EMPTY, {0, 0, ROOM}, 0, 2, UNTOUCHED, UNTOUCHED, EMPTY},
         {EMPTY, sizeof EMPTY, {0, 0, 2}, 0, 2, UNTOUCHED, UNTOUCHED, EMPTY},
         {EMPTY, sizeof EMPTY, {0, 0, 1}, 13, 2, UNTOUCHED, UNTOUCHED, NULL},
@@ -383,6 +416,7 @@ int main(void)
     call_indexes();
     indexes();
     flattening();
+    masks();
     fonts();
     bad_lists();
     printf("smoke: eleven functions, %u checks hold\n", checks);

@@ -67,7 +67,7 @@ pub struct Whole {
 #[derive(Debug, Default, PartialEq)]
 pub struct Counts {
     pub flattened: u32,
-    /// Of all glyphs, the refused ones too.
+    /// Of all glyphs, the refused ones too where their refusal tells them.
     pub tokens: u64,
     /// The bytes of the accepted charstrings.
     pub before: usize,

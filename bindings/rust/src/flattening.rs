@@ -29,7 +29,8 @@ pub struct FlatVec {
 /// A refusal changes no byte of `out`, and acceptance only the first `length`.
 ///
 /// Refused with one of [`Refusal::BadGlobals`](crate::Refusal::BadGlobals) to
-/// [`Refusal::Short`](crate::Refusal::Short). A list that is not well formed comes with what
+/// [`Refusal::Short`](crate::Refusal::Short), or in strict with
+/// [`Refusal::OperandsAtMask`](crate::Refusal::OperandsAtMask). A list that is not well formed comes with what
 /// [`check_list`](crate::check_list) says of it:
 ///
 /// ```

@@ -15,8 +15,10 @@ use crate::Profile;
 ///
 /// Refused, in this order, with [`Refusal::BadGlobals`](crate::Refusal::BadGlobals),
 /// [`Refusal::BadLocals`](crate::Refusal::BadLocals) or [`Refusal::BadCharstrings`](crate::Refusal::BadCharstrings); as
-/// the first glyph that is refused, with its number and its tokens; with [`Refusal::TooLong`](crate::Refusal::TooLong),
-/// where the last offset would pass 4294967295; or with [`Refusal::Short`](crate::Refusal::Short):
+/// the first glyph that is refused, with its number and its tokens, of which
+/// [`Refusal::OperandsAtMask`](crate::Refusal::OperandsAtMask) has none; with
+/// [`Refusal::TooLong`](crate::Refusal::TooLong), where the last offset would pass 4294967295; or with
+/// [`Refusal::Short`](crate::Refusal::Short):
 ///
 /// ```
 /// use ighzamrel::{flatten_font, Profile, Refusal, EMPTY_INDEX};

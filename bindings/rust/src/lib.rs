@@ -48,12 +48,31 @@ pub use number::{
 pub use refusal::{NoRefusal, Refusal, Refused};
 
 /// The rules to run by.
+///
+/// Where strict accepts, plain gives the same:
+///
+/// ```
+/// use ighzamrel::{flatten, Profile, Refusal, EMPTY_INDEX};
+/// // 0 1 hstem, hintmask with one byte, and then a 0 that waits at the next hintmask
+/// let charstring = [0x8B, 0x8C, 0x01, 0x13, 0x80, 0x8B, 0x13, 0x80, 0x0E];
+/// let by = |profile| flatten(&charstring, EMPTY_INDEX, EMPTY_INDEX, profile, 100, &mut [0; 16]);
+///
+/// assert_eq!(by(Profile::Plain)?.length, charstring.len());
+/// let refused = by(Profile::Strict).unwrap_err();
+/// assert_eq!((refused.refusal, refused.tokens), (Refusal::OperandsAtMask, None));
+/// assert_eq!(
+///     refused.to_string(),
+///     "refusal 15: operands wait at a mask whose length is fixed, in strict"
+/// );
+/// # Ok::<(), ighzamrel::Refused>(())
+/// ```
 #[derive(Clone, Copy, Debug, Default, PartialEq, Eq, Hash)]
 pub enum Profile {
     /// What the Rust crate subsetter does: calls 64 strings deep, 65,535 hints, an index by 32-bit floats.
     #[default]
     Plain,
-    /// Adobe's Technical Note 5177: calls 11 strings deep, 96 hints, an index that is exactly whole.
+    /// Adobe's Technical Note 5177: calls 11 strings deep, 96 hints, an index that is exactly whole, and no operands at a
+    /// mask once an earlier one has fixed its length.
     Strict,
 }
 

@@ -114,22 +114,22 @@ fn accepted_rows_without_room_give_their_length_and_tokens() {
             ..run(Refusal::Short, tokens)
         };
         for room in 0..flat.len() {
-            both_refuse(charstring, locals, room, refused);
+            both_refuse(charstring, locals, Plain, room, refused);
         }
     }
 }
 
 /// Both functions refuse so, and no lent byte changes.
-fn both_refuse(charstring: &[u8], locals: &[u8], room: usize, refused: Refused) {
+fn both_refuse(charstring: &[u8], locals: &[u8], profile: Profile, room: usize, refused: Refused) {
     let answer = lent(room, |out| {
-        flatten(charstring, EMPTY_INDEX, locals, Plain, AMPLE, out)
+        flatten(charstring, EMPTY_INDEX, locals, profile, AMPLE, out)
     });
     assert_eq!(
         answer,
         (Err(refused), vec![BLANK; room]),
         "{charstring:02X?}"
     );
-    let answer = flatten_to_vec(charstring, EMPTY_INDEX, locals, Plain, AMPLE, room);
+    let answer = flatten_to_vec(charstring, EMPTY_INDEX, locals, profile, AMPLE, room);
     assert_eq!(answer, Err(refused), "{charstring:02X?}");
 }
 
@@ -152,7 +152,7 @@ fn rows_without_budget_are_refused_with_it() {
 #[test]
 fn refused_rows_change_no_byte() {
     for (charstring, locals, refusal, tokens) in REFUSED {
-        both_refuse(charstring, locals, ROOM, run(refusal, tokens));
+        both_refuse(charstring, locals, Plain, ROOM, run(refusal, tokens));
     }
 }
 
@@ -191,6 +191,65 @@ fn strict_has_limits_of_its_own() {
         strict(&mask, EMPTY_INDEX),
         Err(run(Refusal::TooManyHints, 199))
     );
+}
+
+/// Each charstring with its local list, which plain accepts, and strict refuses for what waits at its second mask.
+pub const AT_MASK: [(Bytes, Bytes); 4] = [
+    (
+        &[0x8B, 0x8C, 0x01, 0x13, 0x80, 0x8B, 0x13, 0x80, 0x0E],
+        EMPTY_INDEX,
+    ),
+    // the first mask has its stems from operands, and the second is the other operator
+    (
+        &[0x8B, 0x8C, 0x13, 0x80, 0x8B, 0x8B, 0x14, 0x80, 0x0E],
+        EMPTY_INDEX,
+    ),
+    // a subroutine leaves the operand
+    (
+        &[0x8B, 0x8C, 0x01, 0x13, 0x80, 0x20, 0x0A, 0x13, 0x80, 0x0E],
+        &[0x00, 0x01, 0x01, 0x01, 0x03, 0x8C, 0x0B],
+    ),
+    // a subroutine has the mask
+    (
+        &[0x8B, 0x8C, 0x01, 0x13, 0x80, 0x8B, 0x20, 0x0A, 0x0E],
+        &[0x00, 0x01, 0x01, 0x01, 0x03, 0x14, 0x80],
+    ),
+];
+
+#[test]
+fn operands_at_a_fixed_mask_are_refused_in_strict() {
+    for (charstring, locals) in AT_MASK {
+        let refused = alone(Refusal::OperandsAtMask);
+        both_refuse(charstring, locals, Strict, ROOM, refused);
+        both_refuse(charstring, locals, Strict, 0, refused);
+        let plain = flatten_to_vec(charstring, EMPTY_INDEX, locals, Plain, AMPLE, ROOM).unwrap();
+        assert_eq!(plain.bytes.last(), Some(&0x0E), "{charstring:02X?}");
+    }
+}
+
+#[test]
+fn operands_at_a_mask_come_after_the_budget_and_before_its_bytes() {
+    let (whole, _) = AT_MASK[0];
+    let cut = &whole[..7];
+    let vec =
+        |profile, budget| flatten_to_vec(cut, EMPTY_INDEX, EMPTY_INDEX, profile, budget, ROOM);
+    assert_eq!(vec(Strict, 5), Err(run(Refusal::BudgetSpent, 5)));
+    assert_eq!(vec(Strict, 6), Err(alone(Refusal::OperandsAtMask)));
+    assert_eq!(vec(Plain, 6), Err(run(Refusal::BytesLacking, 6)));
+}
+
+#[test]
+fn operands_at_a_mask_that_fixes_the_length_are_stems() {
+    let rows: [Bytes; 2] = [
+        &[0x8B, 0x8C, 0x13, 0x80, 0x14, 0x80, 0x0E],
+        // the first mask has no bytes, and so fixes nothing
+        &[0x13, 0x8B, 0x8C, 0x13, 0x80, 0x0E],
+    ];
+    for charstring in rows {
+        let answer = flatten_to_vec(charstring, EMPTY_INDEX, EMPTY_INDEX, Strict, AMPLE, ROOM);
+        let (bytes, tokens) = (charstring.to_vec(), 5);
+        assert_eq!(answer, Ok(FlatVec { bytes, tokens }), "{charstring:02X?}");
+    }
 }
 
 /// Forty subroutines of which each calls the next twice: the last would run 549,755,813,888 times.

@@ -28,6 +28,9 @@ fn file(tag: &[u8; 4], table: &[u8]) -> Vec<u8> {
 
 const REAL: [u8; 6] = [30, 0x0A, 0x00, 0x1F, 12, 7];
 
+/// 0 1 hstem, hintmask, and a 0 that waits at the next hintmask.
+const AT_MASK: &[u8] = &[0x8B, 0x8C, 0x01, 0x13, 0x80, 0x8B, 0x13, 0x80, 0x0E];
+
 /// -107 callsubr endchar, endchar, and an operator that is none.
 const GLYPHS: [&[u8]; 3] = [&[0x20, 0x0A, 0x0E], &[0x0E], &[0x00]];
 
@@ -130,18 +133,26 @@ fn a_font_is_flattened_in_one_go() {
 #[test]
 fn refused_glyphs_are_counted() {
     assert_eq!(plain(&plain_font()).counts, counts(9, 4, 5));
-    let report = flatten(&plain_font(), Profile::Strict).unwrap();
+    refused_in_strict(GLYPHS[2], Refusal::Unknown, Some(1), 9);
+    refused_in_strict(AT_MASK, Refusal::OperandsAtMask, None, 8);
+}
+
+/// Two glyphs are flattened, and this third one is refused so; `all` are the tokens that are counted.
+fn refused_in_strict(glyph: &[u8], refusal: Refusal, tokens: Option<u32>, all: u32) {
+    let glyphs = index(&[GLYPHS[0], GLYPHS[1], glyph]);
+    let font = font_with(&glyphs, &index(&[&[0x8C, 0x8D, 0x15, 0x0B]]));
+    let report = flatten(&font, Profile::Strict).unwrap();
     let text = report.to_string();
     let lines: Vec<&str> = text.lines().map(str::trim).collect();
     let first = report.whole.unwrap().unwrap_err();
-    assert_eq!((first.glyph, first.tokens), (Some(2), Some(1)));
+    assert_eq!((first.glyph, first.tokens), (Some(2), tokens));
     assert_eq!(
         lines,
         [
             "3 glyphs",
             &format!("in one go: {first}"),
-            "one by one: 2 flattened, 4 bytes before, 5 after, in 9 tokens",
-            &format!("1 with {}", Refusal::Unknown)
+            &format!("one by one: 2 flattened, 4 bytes before, 5 after, in {all} tokens"),
+            &format!("1 with {refusal}")
         ]
     );
 }

@@ -49,6 +49,14 @@ fn texts_tell_the_glyph_of_a_font() {
         refused.to_string(),
         "refusal 9: glyph 12: a call names a subroutine that is not there, at token 3"
     );
+    let without_tokens = Refused {
+        glyph: Some(12),
+        ..alone(Refusal::OperandsAtMask)
+    };
+    assert_eq!(
+        without_tokens.to_string(),
+        "refusal 15: glyph 12: operands wait at a mask whose length is fixed, in strict"
+    );
 }
 
 /// It says what its refusal says, and then this.

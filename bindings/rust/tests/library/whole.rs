@@ -1,6 +1,6 @@
 //! A whole font: the rows of one charstring as its glyphs.
 
-use crate::flattening::{ACCEPTED, AMPLE, L, REFUSED};
+use crate::flattening::{ACCEPTED, AMPLE, AT_MASK, L, REFUSED};
 use crate::{alone, index, lent, refuses, short, writes, BAD_LISTS, BLANK};
 use ighzamrel::Profile::{Plain, Strict};
 use ighzamrel::*;
@@ -77,6 +77,23 @@ fn the_first_refused_glyph_decides() {
             flatten_font(&glyphs, EMPTY_INDEX, locals, Plain, AMPLE, out)
         });
         assert_eq!(answer, (Err(refused), vec![BLANK]));
+    }
+}
+
+#[test]
+fn operands_at_a_fixed_mask_are_told_with_the_glyph_alone() {
+    for (charstring, locals) in AT_MASK {
+        let glyphs = index(&[&[0x0E], charstring, &[0x00]]);
+        let refused = Refused {
+            glyph: Some(1),
+            ..alone(Refusal::OperandsAtMask)
+        };
+        refuses(refused, |out| {
+            flatten_font(&glyphs, EMPTY_INDEX, locals, Strict, AMPLE, out)
+        });
+        let vec = |profile| flatten_font_to_vec(&glyphs, EMPTY_INDEX, locals, profile, AMPLE, ROOM);
+        assert_eq!(vec(Strict), Err(refused), "{charstring:02X?}");
+        assert_eq!(vec(Plain), Err(at(2, Refusal::Unknown, 1)));
     }
 }
 
