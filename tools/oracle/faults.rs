@@ -1,6 +1,7 @@
 //! Faults in a thin layer before the library. A comparison and a fuzz target that do not catch each are worth little.
 
 use crate::lend::PLANTED;
+use crate::mask_faults;
 use crate::operation::{library, Call, Fault, Found, Lent, Operation, Side};
 use crate::operations::OPERATIONS;
 
@@ -25,7 +26,8 @@ static EVERYWHERE: [Fault; 9] = [
 /// All of them, those that any operation can have first.
 fn all() -> Vec<(&'static Fault, Option<&'static Operation>)> {
     let own = |&operation: &&'static Operation| {
-        operation.faults.iter().map(move |fault| (fault, Some(operation)))
+        let own = operation.faults.iter().chain(mask_faults::of(operation));
+        own.map(move |fault| (fault, Some(operation)))
     };
     let everywhere = EVERYWHERE.iter().map(|fault| (fault, None));
     everywhere.chain(OPERATIONS.iter().flat_map(own)).collect()

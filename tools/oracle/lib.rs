@@ -10,6 +10,7 @@ mod kept;
 pub mod lend;
 pub mod library;
 pub mod list;
+mod mask_faults;
 pub mod operation;
 pub mod operations;
 pub mod random;

@@ -45,6 +45,8 @@ pub(super) fn all() -> Vec<Given> {
         operands(),
         strict_hints(),
         plain_hints(0),
+        waiting(),
+        masks().iter().flat_map(Case::around).collect(),
         [1239, 1240, 33899, 33900].into_iter().flat_map(counts).collect(),
         forty(),
     ]
@@ -78,6 +80,8 @@ pub(super) fn triggers() -> Vec<Vec<u8>> {
         vec![0xFF, 0x00, 0x00, 0x80, 0x00, LOCAL],
         vec![0x8B, 0x8C, 0x01, 0x13, 0x80, FIRST, 0x13, 0x80, LOCAL],
         vec![0x8B, 0x8C, 0x01, 0x14, 0x80, FIRST, 0x14, 0x80, GLOBAL],
+        vec![0x8B, 0x8C, 0x01, 0x13, 0x80, 0x8B, 0x14, 0x80],
+        vec![0x8B, 0x8C, 0x14, 0x80, 0x8B, 0x8C, 0x13],
         vec![0x1F, LOCAL],
         vec![0xFF, 0xFF, 0x94, 0x00, 0x00, LOCAL],
         vec![0x8B, GLOBAL],
@@ -229,6 +233,70 @@ pub(super) fn plain_hints(room: usize) -> Vec<Given> {
         }
     }
     asked
+}
+
+/// A hint, and the mask that fixes its length, one byte.
+const FIXED: [u8; 5] = [0x8B, 0x8C, 0x01, 0x13, 0x80];
+
+/// As many operands as there may be, and none, before a second mask of each operator.
+fn waiting() -> Vec<Given> {
+    let mut asked = Vec::new();
+    for (count, operator) in (0..=48).flat_map(|count| [(count, 0x13), (count, 0x14)]) {
+        let string = [&FIXED[..], &vec![0x8B; count], &[operator, 0x80, 0x15, 0x0E]].concat();
+        asked.extend(Case::new(&string, NONE, NONE).both());
+    }
+    asked
+}
+
+/// Behind that mask, over lists as `masks` has them.
+const BEHIND: [&[u8]; 18] = [
+    // operands that are cleared in between
+    &[0x8B, 0x16, 0x13, 0x80, 0x0E],
+    &[0x8B, 0x0C, 0x22, 0x14, 0x80, 0x0E],
+    &[0x8B, 0x8C, 0x03, 0x14, 0x80, 0x0E],
+    // what else is refused, behind the mask and at it
+    &[0x8B, 0x8B, 0x8B, 0x8B, 0x13, 0x80, 0x0E],
+    &[0x8B, 0x13, 0x80, 0x00],
+    &[0x13],
+    &[0x8B, 0x13],
+    &[0x8B, 0x14],
+    // the operand, the mask, both, and the mask without its byte, by a call
+    &[FIRST, LOCAL, 0x13, 0x80, 0x0E],
+    &[FIRST, GLOBAL, 0x14, 0x80, 0x0E],
+    &[0x8B, SECOND, LOCAL, 0x0E],
+    &[0x8B, SECOND, GLOBAL, 0x0E],
+    &[SECOND, LOCAL, 0x0E],
+    &[THIRD, LOCAL, 0x0E],
+    &[0x8B, THIRD + 1, GLOBAL],
+    // an index that waits, of an entry that is there and of one that is not
+    &[FIRST, 0x13, 0x80, LOCAL],
+    &[FIRST, 0x14, 0x80, GLOBAL, 0x0E],
+    &[0x8B, 0x14, 0x80, LOCAL],
+];
+
+/// First masks with operands, and what comes behind these.
+const FIRST_MASKS: [&[u8]; 8] = [
+    &[0x8B, 0x8C, 0x14, 0x80, 0x0E],
+    &[0x8B, 0x8B, 0x8C, 0x13, 0x80, 0x14, 0x80, 0x0E],
+    &[0x8B, 0x8C, 0x14, 0x80, 0x8B, 0x14, 0x80, 0x0E],
+    // masks without bytes fix nothing
+    &[0x8B, 0x13, 0x8B, 0x14, 0x0E],
+    &[0x13, 0x14, 0x8B, 0x8C, 0x14, 0x80, 0x0E],
+    &[0x13, 0x8B, 0x8C, 0x14, 0x80, 0x8B, 0x13, 0x80, 0x0E],
+    // the first mask is an entry's
+    &[0x8B, 0x8C, SECOND, LOCAL, 0x0E],
+    &[0x8B, 0x8C, SECOND, LOCAL, 0x8B, SECOND, GLOBAL, 0x0E],
+];
+
+/// Masks with operands before them: stems, such that stay in plain, and such that strict refuses. The entries of both lists leave
+/// an operand, have a mask, have both, and have a mask that lacks its byte.
+pub(super) fn masks() -> Vec<Case> {
+    let lists = list(&[&[0x8C, 0x0B][..], &[0x13, 0x80], &[0x8B, 0x14, 0x80, 0x0B], &[0x14]]);
+    // nine hints have masks of two bytes, of which one lacks
+    let two_bytes = [&[0x8B; 18][..], &[0x13, 0x80, 0x80, 0x8B, 0x14, 0x80]].concat();
+    let behind = BEHIND.map(|rest| [&FIXED, rest].concat()).into_iter();
+    let strings = behind.chain(FIRST_MASKS.map(<[u8]>::to_vec)).chain([two_bytes]);
+    strings.map(|string| Case::new(&string, &lists, &lists)).collect()
 }
 
 /// A list of so many entries, of which the first and the last are not empty, called by each bias.

@@ -4,7 +4,7 @@ use super::case::{
     list, Case, Given, AMPLE, FIRST, GLOBAL, L, LOCAL, NONE, PLAIN, SECOND, STRICT, THIRD,
 };
 use super::damaged::hurt;
-use super::edges::{plain_hints, triggers, Ladder, BAD, MOST_STEMS};
+use super::edges::{masks, plain_hints, triggers, Ladder, BAD, MOST_STEMS};
 use super::flattening::{each_once, rows as charstrings};
 use super::index::{any_bytes, flawed, laid, rows};
 use super::loose::FULL_STEM;
@@ -29,7 +29,7 @@ const BOUNDS: [u64; 4] = [255, 65_535, 16_777_215, 4_294_967_295];
 
 /// Those of the list, each once.
 pub fn listed() -> Vec<Given> {
-    let mut asked: Vec<Given> = small().iter().flat_map(Font::around).collect();
+    let mut asked: Vec<Given> = small().iter().chain(&masked()).flat_map(Font::around).collect();
     asked.extend(refused());
     asked.extend(bad_lists());
     asked.extend(laid_out());
@@ -138,6 +138,16 @@ fn small() -> Vec<Font> {
     fonts
 }
 
+/// Each charstring about operands at a mask as the second glyph, between two that are accepted.
+fn masked() -> Vec<Font> {
+    let font = |Case { charstring, globals, locals }| Font {
+        glyphs: vec![vec![0x0E], charstring, vec![0x8C, 0x16]],
+        globals,
+        locals,
+    };
+    masks().into_iter().map(font).collect()
+}
+
 /// The first, a middle and the last glyph refused, and two of them: for each refusal, also where there is no room; and by the
 /// budget.
 fn refused() -> Vec<Given> {
@@ -156,7 +166,7 @@ fn refused() -> Vec<Given> {
         }
         for pair in [[trigger, other], [other, trigger]] {
             let glyphs = [sound[1], pair[0], sound[2], pair[1]];
-            asked.push(font(&glyphs).case().ample(PLAIN));
+            asked.extend(font(&glyphs).case().both());
         }
     }
     for glyphs in [[1, 0, 0], [0, 1, 0], [0, 0, 1], [1, 2, 1]] {

@@ -309,7 +309,7 @@ fn add_index(string: &mut Vec<u8>, index: i32, random: &mut Random) {
 /// One thing that is wrong, or nearly.
 fn add_wrong(making: &mut Making, string: &mut Vec<u8>) {
     let call = making.random.one_of(&[LOCAL, GLOBAL]);
-    match making.random.within(0, 8) {
+    match making.random.within(0, 9) {
         0 => {
             let operands = making.random.within(46, 50) as usize;
             making.add_operands(string, operands);
@@ -330,6 +330,7 @@ fn add_wrong(making: &mut Making, string: &mut Vec<u8>) {
             making.add_operands(string, operands);
             string.push(14);
         }
+        8 => add_waiting(making, string),
         _ => add_many_hints(making, string),
     }
 }
@@ -341,6 +342,24 @@ fn add_buried_index(making: &mut Making, string: &mut Vec<u8>) {
     let call = string.pop();
     making.add_mask(string);
     string.extend(call);
+}
+
+/// A mask at which operands wait: a few, up to as many as there may be, or what a subroutine leaves. Mostly it is not the first.
+fn add_waiting(making: &mut Making, string: &mut Vec<u8>) {
+    if !making.random.once_in(4) {
+        making.add_mask(string);
+    }
+    let called = making.random.once_in(3)
+        && making.call_one(string, &mut 0, |leaves| leaves == Leaves::Operands).is_some();
+    if !called {
+        let most = making.random.one_of(&[1, 3, 48]);
+        let operands = making.random.within(1, most) as usize;
+        making.add_operands(string, operands);
+    }
+    making.add_mask(string);
+    if !making.random.once_in(8) {
+        making.add_path(string);
+    }
 }
 
 /// A call of an entry before the first, after the last, or of any, which may be a caller of this one.

@@ -11,7 +11,7 @@ use crate::operation::{library, Argument, Call, Fault, Found, Lent, Must, Next, 
 use crate::operation::{Outcome, Owed, Place, BARE};
 use crate::random::Random;
 use crate::record::MOST;
-use crate::rules::flattening::{self as rules, Verdict};
+use crate::rules::flattening::{self as rules, at_mask, MaskRule, Verdict};
 use crate::rules::index::{formed, Flaw};
 use crate::kept::Kept;
 use std::borrow::Cow;
@@ -53,6 +53,7 @@ pub static OPERATION: Operation = Operation {
         (11, TOKENS),
         (12, TOKENS),
         (13, 0b11),
+        (15, 0),
     ],
     reasons: Some((3, &[20, 21, 40, 41, 42])),
     found: Found::Written,
@@ -190,11 +191,24 @@ fn told(call: &Call, verdict: &Verdict) -> Outcome {
     }
 }
 
-/// The refusal of a run, with its tokens.
-pub fn stopped(refusal: u32, tokens: u32) -> Outcome {
+/// The refusal of a run, with its tokens where it tells them.
+fn stopped(refusal: u32, tokens: u32) -> Outcome {
     let mut told = Outcome::refused(refusal);
-    told.values[1] = Some(tokens.into());
+    told.values[1] = tells_tokens(refusal).then_some(tokens.into());
     told
+}
+
+/// What must come where operands at a mask go by this rule.
+pub fn ruled(call: &Call, at_mask: MaskRule) -> Outcome {
+    told(call, &verdict(call, at_mask))
+}
+
+fn verdict(call: &Call, at_mask: MaskRule) -> Verdict {
+    let [charstring, globals, locals] = call.slices.each_ref().map(|slice| &slice[..]);
+    match rules::Lists::known(globals, locals, [globals, locals].map(formed)) {
+        Ok(lists) => lists.by(at_mask).flattened(charstring, call.strict(), call.budget).0,
+        Err((refusal, flaw)) => Verdict::BadList(refusal, flaw),
+    }
 }
 
 /// The refusal of a list: why, at the place for reasons, and the entry at the place before it.
@@ -219,7 +233,7 @@ fn by_rust(verdict: &Verdict) -> Option<Result<Vec<u8>, Error>> {
 /// The Rust's error for the refusal of a run, or `None` where it has no word.
 pub fn error(refusal: u32) -> Option<Error> {
     match refusal {
-        3 | 8 | 11 => None,
+        3 | 8 | 11 | 15 => None,
         12 => Some(Error::Unimplemented),
         _ => Some(Error::CFFError),
     }
@@ -253,13 +267,12 @@ pub fn other_profile<'a>(call: &'a Call<'a>, outcome: &Outcome) -> Next<'a> {
 
 /// A budget of just the tokens and any larger one give the same; one less gives 3.
 fn budgets<'a>(call: &'a Call<'a>, outcome: &'a Outcome) -> Vec<Next<'a>> {
-    let (0 | 4.., Some(tokens)) = (outcome.answer, outcome.values[1]) else { return Vec::new() };
+    let Some(tokens) = tokens(call, outcome) else { return Vec::new() };
     let with = |budget: u32, must: Must<'a>, law: &'static str| Next {
         call: Call { budget, ..call.again() },
         must,
         law,
     };
-    let tokens = tokens as u32;
     let same = "a budget of just the tokens, or a larger one, gives another answer";
     let mut next = vec![
         with(tokens, Must::GiveTheSame, same),
@@ -269,6 +282,15 @@ fn budgets<'a>(call: &'a Call<'a>, outcome: &'a Outcome) -> Vec<Next<'a>> {
         next.push(with(less, Must::Refuse(3), "a budget one too small is not told by 3"));
     }
     next
+}
+
+/// The tokens of a run that ended before the budget did; 15 does not tell them, and the rule does.
+fn tokens(call: &Call, outcome: &Outcome) -> Option<u32> {
+    match outcome.answer {
+        3 => None,
+        15 => Some(verdict(call, at_mask).tokens()),
+        _ => outcome.values[1].map(|tokens| tokens as u32),
+    }
 }
 
 /// The refusal of a list tells what the check of that one tells, and those that are looked at before it are well formed. The
@@ -308,6 +330,11 @@ pub fn accepts(answer: u32) -> bool {
 
 /// Whether a run was refused.
 pub fn stops(answer: u32) -> bool {
+    tells_tokens(answer) || answer == 15
+}
+
+/// Whether a run was refused with its tokens.
+pub fn tells_tokens(answer: u32) -> bool {
     (3..=12).contains(&answer)
 }
 

@@ -3,7 +3,7 @@
 //! numbers of glyphs and tokens, room, 23, and what is wrong with a list are the rule's alone.
 
 use super::flatten::{
-    accepts, after, asked, bad_list, error, lists, of, other_profile, set, stopped, stops,
+    accepts, after, asked, bad_list, error, lists, of, other_profile, set, stops, tells_tokens,
 };
 use super::{flatten, write_charstring_number::rooms};
 use crate::inputs::case::{list, NONE};
@@ -13,9 +13,9 @@ use crate::library::ighzamrel_flatten_font;
 use crate::operation::{library, Argument, Call, Fault, Found, Lent, Must, Next, Operation};
 use crate::operation::{Outcome, Owed, Place, BARE};
 use crate::record::MOST;
-use crate::rules::flattening::Lists;
+use crate::rules::flattening::{at_mask, Lists, MaskRule};
 use crate::rules::font::{self as rules, Flats};
-use crate::rules::index::{entries, formed, needed, Flaw};
+use crate::rules::index::{entries, formed, needed, Flaw, Refusal};
 use std::borrow::Cow;
 use subsetter::Error;
 
@@ -23,6 +23,7 @@ use subsetter::Error;
 const HELD: u64 = 1 << 25;
 
 const LENGTH: u8 = 0b1;
+const GLYPH: u8 = 0b10;
 const STOPPED: u8 = 0b110;
 const ENTRY: u8 = 0b1000;
 const REASON: u8 = 0b1_0000;
@@ -57,6 +58,7 @@ pub static OPERATION: Operation = Operation {
         (10, STOPPED),
         (11, STOPPED),
         (12, STOPPED),
+        (15, GLYPH),
         (23, 0),
         (13, LENGTH),
     ],
@@ -121,9 +123,7 @@ fn invoke_on(call: &Call, lent: &Lent, charstrings: *const u8, size: usize) -> u
 fn owed(call: &Call) -> Result<Owed, String> {
     let [charstrings, globals, locals] = call.slices.each_ref().map(|slice| &slice[..]);
     Kept::with([globals, locals], |kept| {
-        let flats = Lists::known(globals, locals, kept.formed)
-            .and_then(|lists| rules::flattened(lists, charstrings, call.strict(), call.budget));
-        let flats = match flats {
+        let flats = match flats(call, kept.formed, at_mask) {
             Ok(flats) => flats,
             Err(bad) => return Ok(Owed::by_rule(bad_list(call.operation, bad))),
         };
@@ -135,11 +135,30 @@ fn owed(call: &Call) -> Result<Owed, String> {
     })
 }
 
+/// What must come where operands at a mask go by this rule.
+pub fn ruled(call: &Call, at_mask: MaskRule) -> Outcome {
+    let formed = [1, 2].map(|list| formed(&call.slices[list]));
+    match flats(call, formed, at_mask) {
+        Ok(flats) => told(&flats, call.room),
+        Err(bad) => bad_list(call.operation, bad),
+    }
+}
+
+fn flats<'a>(
+    call: &'a Call,
+    formed: [Result<u32, Flaw>; 2],
+    at_mask: MaskRule,
+) -> Result<Flats<'a>, (Refusal, Flaw)> {
+    let [charstrings, globals, locals] = call.slices.each_ref().map(|slice| &slice[..]);
+    let lists = Lists::known(globals, locals, formed)?.by(at_mask);
+    rules::flattened(lists, charstrings, call.strict(), call.budget)
+}
+
 fn told(flats: &Flats, room: usize) -> Outcome {
     if let Some((refusal, tokens)) = flats.stopped {
         let mut told = Outcome::refused(refusal);
         told.values[1] = Some(flats.strings.len() as i64);
-        told.values[2] = Some(tokens.into());
+        told.values[2] = tells_tokens(refusal).then_some(tokens.into());
         return told;
     }
     match flats.needed() {
@@ -175,8 +194,9 @@ fn glyph_by_glyph<'a>(call: &'a Call<'a>, outcome: &'a Outcome) -> Vec<Next<'a>>
         let call = Call { operation: &flatten::OPERATION, room, ..call.with(0, glyphs[glyph]) };
         Next { call, must, law: "a glyph by itself gives something else" }
     };
-    if let [_, Some(glyph), Some(tokens), ..] = outcome.values {
-        let told = stopped(outcome.answer, tokens as u32);
+    if let [_, Some(glyph), tokens, ..] = outcome.values {
+        let mut told = Outcome::refused(outcome.answer);
+        told.values[1] = tokens;
         return vec![alone(glyph as usize, 0, Must::Give(told))];
     }
     let written = entries(&outcome.bytes).unwrap_or_default();
@@ -227,7 +247,9 @@ fn runs(call: &Call) -> Vec<(Result<u64, u32>, u32)> {
 /// Tells that a glyph refuses.
 fn tell_glyph(lent: &Lent, glyph: usize, tokens: u32, refusal: u32) -> u32 {
     set(lent, 1, glyph as u32);
-    set(lent, 2, tokens);
+    if tells_tokens(refusal) {
+        set(lent, 2, tokens);
+    }
     refusal
 }
 
@@ -313,7 +335,7 @@ fn less_by_one(offset: &mut [u8]) {
 
 fn tokens_summed(call: &Call, lent: &Lent) -> u32 {
     let answer = library(call, lent);
-    if stops(answer) {
+    if tells_tokens(answer) {
         let glyph = lent.word(1) as usize;
         set(lent, 2, runs(call)[..=glyph].iter().map(|(_, tokens)| tokens).sum::<u32>());
     }

@@ -63,6 +63,43 @@ pub struct Ran<'a> {
     pub met: Met,
 }
 
+/// What decides about the operands that wait where a run comes to a mask.
+#[derive(Clone, Copy)]
+pub struct AtMask {
+    pub strict: bool,
+    pub operator: u8,
+    pub waiting: bool,
+    /// Whether a mask came before.
+    pub later: bool,
+    /// Whether the length is fixed: it is not 0.
+    pub fixed: bool,
+    /// Whether bytes of that length lack.
+    pub lacking: bool,
+}
+
+/// What becomes of them.
+#[derive(Clone, Copy)]
+pub enum Operands {
+    /// They declare hints.
+    Declare,
+    Stay,
+    /// 15.
+    Refused,
+    /// By no rule, but by a planted fault.
+    Cleared,
+}
+
+pub type MaskRule = fn(AtMask) -> Operands;
+
+/// The rule; planted faults go by others.
+pub fn at_mask(at: AtMask) -> Operands {
+    match at {
+        AtMask { fixed: false, .. } => Operands::Declare,
+        AtMask { strict: true, waiting: true, .. } => Operands::Refused,
+        _ => Operands::Stay,
+    }
+}
+
 /// A subroutine list and how many entries it has.
 #[derive(Clone, Copy)]
 struct List<'a> {
@@ -70,11 +107,12 @@ struct List<'a> {
     count: u32,
 }
 
-/// Both lists, well formed.
+/// Both lists, well formed, and the rule for operands at a mask.
 #[derive(Clone, Copy)]
 pub struct Lists<'a> {
     globals: List<'a>,
     locals: List<'a>,
+    at_mask: MaskRule,
 }
 
 /// What a run met: calls that it entered, those of them by a Fixed, and of these the nearly whole; masks; the depth.
@@ -138,7 +176,13 @@ impl<'a> Lists<'a> {
         Ok(Lists {
             globals: List { bytes: globals, count: global.map_err(bad(1))? },
             locals: List { bytes: locals, count: local.map_err(bad(2))? },
+            at_mask,
         })
+    }
+
+    /// The same, with another rule for operands at a mask.
+    pub fn by(self, at_mask: MaskRule) -> Self {
+        Lists { at_mask, ..self }
     }
 
     pub fn flattened(self, charstring: &'a [u8], strict: bool, budget: u32) -> (Verdict, Met) {
@@ -258,11 +302,24 @@ impl<'a> Run<'a> {
         Ok(())
     }
 
-    /// 11, then 4.
+    /// 15, 11, then 4.
     fn mask(&mut self, b: u8, from: &'a [u8]) -> Result<&'a [u8], Refusal> {
-        if self.mask_length == 0 {
-            self.count_hints()?;
-            self.mask_length = self.hints.div_ceil(8);
+        let at = AtMask {
+            strict: self.strict,
+            operator: b,
+            waiting: !self.stack.is_empty(),
+            later: self.met.masks > 0,
+            fixed: self.mask_length > 0,
+            lacking: from.len() < self.mask_length,
+        };
+        match (self.lists.at_mask)(at) {
+            Operands::Declare => {
+                self.count_hints()?;
+                self.mask_length = self.hints.div_ceil(8);
+            }
+            Operands::Stay => {}
+            Operands::Refused => return Err(15),
+            Operands::Cleared => self.stack.clear(),
         }
         let (mask, after) = from.split_at_checked(self.mask_length).ok_or(4u32)?;
         self.keep_with(vec![b], mask);
