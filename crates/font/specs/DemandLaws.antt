@@ -18,12 +18,12 @@ use Rattle.reading.specs.Tokens.{Bytes}
 use Rattle.reading.specs.Flat.{flat, straight}
 use Rattle.reading.specs.Reading.{Shown, struck, Run, original}
 use Rattle.reading.specs.Answers.{flattening}
-use Rattle.reading.specs.Masks.{StemsFirst, ByNote}
+use Rattle.reading.specs.Masks.{StemsFirst, ByNote, CleanMasks}
 use Rattle.reading.specs.Demands.{empty, SameGlyph, reported}
 use Rattle.reading.specs.BudgetLaws.{tokens-budget}
 use Rattle.reading.specs.StraightLaws.{Just, struck-shown}
 use Rattle.reading.specs.SameGlyphLaws.{empty-formed, part-bytes, lists-bytes, items-tokens, just-again, reported-is}
-use Rattle.reading.specs.DemandLaws.{demand-three, masks-by-note}
+use Rattle.reading.specs.DemandLaws.{demand-three, masks-by-note, masks-clean}
 use Rattle.font.specs.Font.{flatIn, allFrom, lengthsOf, joinedOf, indexed, ifFormed, fontBy, flatFont, flattenFont}
 use Rattle.font.specs.Demands.{Alone, SameEntry, SameFont, FontDemand, IsFormed}
 use Rattle.font.specs.WholeLaws.{let-in}
@@ -142,6 +142,8 @@ module _ (rules : Rules) (charstrings globals locals : List ℕ) (budget : ℕ) 
               one = alone-is;
               masks = subst (λ (y : List ℕ). StemsFirst rules (straight rules y .items) → ByNote rules (straight rules y .items)) reported-here
                   (masks-by-note rules cs globals locals budget room (alone-is .x) cs-bytes g l answer-is);
+              clean = λ c. subst (λ (y : List ℕ). CleanMasks (straight rules y .items)) reported-here
+                  (masks-clean rules cs globals locals budget room (alone-is .x) cs-bytes g l answer-is c);
               same = subst (SameGlyph rules cs globals locals budget (alone-is .x)) reported-here
                   (demand-three rules cs globals locals budget room (alone-is .x) cs-bytes g l answer-is);
             }

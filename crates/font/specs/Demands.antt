@@ -1,6 +1,7 @@
 -- What the demands (docs/PROOFS.md, "The three demands") say of a whole font, as types. The proofs stand in DemandLaws.antt and RefusalLaws.antt.
 use Prim.Native.Nat.{ℕ, _+_, _<_, _≤_}
 use mathlib.Core.Path.{_≡_}
+use mathlib.Core.Bool.{true}
 use mathlib.Core.List.{List, [], _++_}
 use lib.ListN.{length, getD, take, drop}
 use Rattle.number.specs.Answer.{Values, alone, needing, because, atGlyph, accepted, refused, leaving}
@@ -11,7 +12,7 @@ use Rattle.reading.specs.Rules.{Rules}
 use Rattle.reading.specs.Tokens.{Bytes}
 use Rattle.reading.specs.Flat.{straight}
 use Rattle.reading.specs.Answers.{Flattening, flattening}
-use Rattle.reading.specs.Masks.{StemsFirst, ByNote}
+use Rattle.reading.specs.Masks.{StemsFirst, ByNote, CleanMasks}
 use Rattle.reading.specs.Demands.{empty, SameGlyph, RunRefusal}
 use Rattle.font.specs.Font.{lengthsOf, flattenFont}
 
@@ -29,6 +30,8 @@ pub record SameEntry (rules : Rules) (cs globals locals : List ℕ) (budget : �
   pub one : Alone rules cs globals locals budget f
   -- And demand 2's hint masks: where all stems of f stand before its first mask with bytes, each mask of f has TN5177's bytes.
   pub masks : StemsFirst rules (straight rules f .items) → ByNote rules (straight rules f .items)
+  -- By clean rules operands wait in f at no mask behind one with bytes.
+  pub clean : rules .clean ≡ true → CleanMasks (straight rules f .items)
   -- Demand 3: f is the same glyph.
   pub same : SameGlyph rules cs globals locals budget (one .x) f
 
@@ -89,3 +92,9 @@ RefusalDemand =
     (rules : Rules) (charstrings globals locals : List ℕ) (budget : ℕ) (out : List ℕ) (k : ℕ) (v : Values) → Bytes charstrings
     → flattenFont rules charstrings globals locals budget out .answer ≡ refused k v
     → Why rules charstrings globals locals budget out k v × (flattenFont rules charstrings globals locals budget out .left ≡ out)
+
+-- by clean rules never 8
+abbrev pub NeverEight : Type 0
+NeverEight =
+    (rules : Rules) (charstrings globals locals : List ℕ) (budget : ℕ) (out : List ℕ) (v : Values) → Bytes charstrings → Bytes globals → Bytes locals
+    → rules .clean ≡ true → flattenFont rules charstrings globals locals budget out .answer ≡ refused 8 v → ⊥

@@ -9,7 +9,7 @@ use lib.Dec.{leb, ltb, eqb}
 use lib.ListN.{length, getD, drop}
 use borrow.Author.Tests.{ltb-true, ltb-false, leb-true, leb-false, eqb-false}
 use Rattle.number.specs.Answer.{Values, alone, needing, atGlyph, Answer, accepted, refused, mapped, Outcome, leaving, Ready, sized, into}
-use Rattle.number.specs.AnswerLaws.{refused-accepted, into-fits}
+use Rattle.number.specs.AnswerLaws.{refused-accepted, answer-as, into-fits}
 use Rattle.number.specs.BigEndianLaws.{be-lt}
 use Rattle.index.specs.Index.{part}
 use Rattle.index.specs.Formed.{formation}
@@ -21,9 +21,11 @@ use Rattle.reading.specs.Tokens.{Bytes}
 use Rattle.reading.specs.Reading.{Ending, back, ended, stopped, Run, original}
 use Rattle.reading.specs.Answers.{Flattening, readyBy}
 use Rattle.reading.specs.Demands.{RunRefusal}
+use Rattle.reading.specs.DemandLaws.{never-eight as eight-alone}
+use Rattle.reading.specs.SameGlyphLaws.{part-bytes}
 use Rattle.reading.specs.StopLaws.{EndsSo, run-stops, refusal-most}
 use Rattle.font.specs.Font.{flatIn, decided, allFrom, lengthsOf, joinedOf, indexed, ifFormed, fontBy, flatFont, flattenFont}
-use Rattle.font.specs.Demands.{Why, bad-globals, bad-locals, bad-charstrings, bad-glyph, too-long, no-room, IsFormed, RefusalDemand}
+use Rattle.font.specs.Demands.{Why, bad-globals, bad-locals, bad-charstrings, bad-glyph, too-long, no-room, IsFormed, RefusalDemand, NeverEight}
 use Rattle.font.specs.FontLaws.{joined-total}
 use Rattle.font.specs.EntryLaws.{Each, each, count-lengths, alone-gives, alone-refused}
 
@@ -190,3 +192,20 @@ pub never-others : (rules : Rules) (charstrings globals locals : List ℕ) (budg
     → flattenFont rules charstrings globals locals budget out .answer ≡ refused k v → (k ≡ 22 → ⊥) × (k ≡ 24 → ⊥)
 never-others rules charstrings globals locals budget out k v bytes e =
     why-others rules charstrings globals locals budget out k v (refusal-demand rules charstrings globals locals budget out k v bytes e .0)
+
+-- by clean rules never 8, for no glyph alone has it
+why-not-eight : (rules : Rules) (charstrings globals locals : List ℕ) (budget : ℕ) (out : List ℕ) (k : ℕ) (v : Values) → Bytes charstrings
+    → Bytes globals → Bytes locals → rules .clean ≡ true → Why rules charstrings globals locals budget out k v → k ≡ 8 → ⊥
+why-not-eight rules charstrings globals locals budget out k₁ v₁ bytes gs ls clean (bad-globals k v g) e = omega arith
+why-not-eight rules charstrings globals locals budget out k₁ v₁ bytes gs ls clean (bad-locals k v g l) e = omega arith
+why-not-eight rules charstrings globals locals budget out k₁ v₁ bytes gs ls clean (bad-charstrings k v g l c) e = omega arith
+why-not-eight rules charstrings globals locals budget out k₁ v₁ bytes gs ls clean (bad-glyph n i k v c h o r b) e =
+    eight-alone rules (part (rules .width) charstrings i) globals locals budget [] v (part-bytes charstrings bytes (rules .width) i) gs ls clean
+    (answer-as (r []) ∙ ap (λ (n : ℕ). refused n v) e)
+why-not-eight rules charstrings globals locals budget out k₁ v₁ bytes gs ls clean (too-long fs c a h) e = omega arith
+why-not-eight rules charstrings globals locals budget out k₁ v₁ bytes gs ls clean (no-room f a h) e = omega arith
+
+pub never-eight : NeverEight
+never-eight rules charstrings globals locals budget out v bytes gs ls clean e =
+    why-not-eight rules charstrings globals locals budget out 8 v bytes gs ls clean
+    (refusal-demand rules charstrings globals locals budget out 8 v bytes e .0) refl

@@ -50,14 +50,14 @@ module _ (κs : Lfts 6) (a : Dens κs kinds.ps) (x : AtExit (endedOf 6 kinds.ps 
   abbrev asked : Outcome (Answer Flattening)
   asked = flattening rules (a .0 .now) (a .1 .0 .now) (a .1 .1 .0 .now) (a .1 .1 .1 .1 .0) (a .1 .1 .1 .1 .1 .0 .now)
 
-  was-accepted : asked .answer ≡ accepted (record { size = n; tokens = t })
+  pub was-accepted : asked .answer ≡ accepted (record { size = n; tokens = t })
   was-accepted =
       told-accepted (asked .answer) _
       (record { length = n; tokens = t; entry = x .1 .1 .1 .1 .1 .1 .1 .1 .0 .now; reason = x .1 .1 .1 .1 .1 .1 .1 .1 .1 .0 .now })
       (numbered-flattening rules (a .0 .now) (a .1 .0 .now) (a .1 .1 .0 .now) (a .1 .1 .1 .1 .0) (a .1 .1 .1 .1 .1 .0 .now)) (answer-as first)
 
   -- what holds of F of the definition holds of the bytes that the call left
-  of-call : (P : List ℕ → Type 0) → P (take n (asked .left)) → P reported
+  pub of-call : (P : List ℕ → Type 0) → P (take n (asked .left)) → P reported
   of-call P h = subst (λ (l : List ℕ). P (take n l)) (sym (left-as first)) h
 
   -- Its first n bytes are the same glyph.

@@ -1,0 +1,67 @@
+-- What strict adds, of the functions that users call: 8 is never answered, and in accepted bytes operands wait at no mask behind one with bytes.
+-- Stated over the contracts' own readings. Assumes nothing but that the lent slices hold bytes, which their type says.
+use mathlib.Core.Path.{_≡_, refl, sym, ap, _∙_}
+use mathlib.Core.Bool.{Bool, true, cond}
+use Prim.Native.Nat.{ℕ}
+use native.Mathlib.Omega.{arith}
+use lib.ListN.{take}
+use borrow.Author.Tests.{ne-eqb}
+use borrow.Fn.Kinds.{Dens, resT, endedOf}
+use contract.Lifetimes.{Lfts}
+use denote.Triple.Clauses.{AtExit}
+use Rattle.number.specs.Answer.{Values, Answer, accepted, refused}
+use Rattle.number.specs.AnswerLaws.{answer-as}
+use Rattle.reading.specs.Rules.{rulesOf}
+use Rattle.reading.specs.Tokens.{Bytes}
+use Rattle.reading.specs.Flat.{straight}
+use Rattle.reading.specs.Masks.{CleanMasks}
+use Rattle.reading.specs.DemandLaws.{masks-clean, never-eight}
+use Rattle.font.specs.RefusalLaws.{never-eight as never-eight-font}
+use Rattle.reading.specs.declared.Profile.{Profile}
+use Rattle.reading.specs.declared.Profile.the-variants.{Plain, Strict}
+use Rattle.ighzamrel.specs.Told.{Told, told, tell, profileOf}
+use Rattle.ighzamrel.proofs.Demands.{of-call, was-accepted}
+use Rattle.ighzamrel.proofs.flattening.ighzamrel_flatten.Kinds as kinds
+use Rattle.ighzamrel.proofs.flattening.ighzamrel_flatten.Reads as reads
+use Rattle.ighzamrel.proofs.fonts.ighzamrel_flatten_font.Kinds as font-kinds
+use Rattle.ighzamrel.proofs.fonts.ighzamrel_flatten_font.Reads as font-reads
+
+-- C's profile is strict where it is not 0
+is-clean : (p : ℕ) → (p ≡ 0 → ⊥) → rulesOf (profileOf p) .clean ≡ true
+unfolding profileOf
+is-clean p h = ap (λ (b : Bool). rulesOf (cond b Plain Strict) .clean) (ne-eqb p 0 h)
+
+-- where 8 is told, the answer is 8
+tells-eight : {A P : Type 0} (set : P → A → P) (setBy : P → Values → P) (a : Answer A) (old p : P) → told 8 p ≡ tell set setBy a old
+    → ((v : Values) → a ≡ refused 8 v → ⊥) → ⊥
+unfolding tell
+tells-eight {A} {P} set setBy (accepted x) old p e h = let z : _≡_ {A = ℕ} 8 0 = ap (λ (t : Told P). t .number) e in omega arith
+tells-eight {A} {P} set setBy (refused n v) old p e h =
+    let z : _≡_ {A = ℕ} 8 n = ap (λ (t : Told P). t .number) e in h v (ap (λ (m : ℕ). refused m v) (sym z))
+
+-- a call of `ighzamrel_flatten` in strict
+module _ (κs : Lfts 6) (a : Dens κs kinds.ps) (x : AtExit (endedOf 6 kinds.ps kinds.r) κs) (in-strict : a .1 .1 .1 .0 ≡ 0 → ⊥)
+    (cs-bytes : Bytes (a .0 .now)) (globals-bytes : Bytes (a .1 .0 .now)) (locals-bytes : Bytes (a .1 .1 .0 .now)) where
+  -- It does not answer 8.
+  pub not-eight : reads.Post κs a 8 x → ⊥
+  not-eight e =
+      tells-eight _ _ _ _ _ (answer-as e)
+      (λ v. never-eight (rulesOf (profileOf (a .1 .1 .1 .0))) (a .0 .now) (a .1 .0 .now) (a .1 .1 .0 .now) (a .1 .1 .1 .1 .0)
+      (a .1 .1 .1 .1 .1 .0 .now) v cs-bytes globals-bytes locals-bytes (is-clean (a .1 .1 .1 .0) in-strict))
+
+  -- Where it answers 0, operands wait at no mask of the first *length bytes but before the first with bytes.
+  pub masks-are-clean : (first : reads.Post κs a 0 x)
+      → CleanMasks (straight (rulesOf (profileOf (a .1 .1 .1 .0))) (take (x .1 .1 .1 .1 .1 .1 .0 .now) (x .1 .1 .1 .1 .1 .0 .now)) .items)
+  masks-are-clean first =
+      of-call κs a x first cs-bytes globals-bytes locals-bytes (λ f. CleanMasks (straight (rulesOf (profileOf (a .1 .1 .1 .0))) f .items))
+      (masks-clean (rulesOf (profileOf (a .1 .1 .1 .0))) (a .0 .now) (a .1 .0 .now) (a .1 .1 .0 .now) (a .1 .1 .1 .1 .0) (a .1 .1 .1 .1 .1 .0 .now) _
+      cs-bytes globals-bytes locals-bytes (was-accepted κs a x first cs-bytes globals-bytes locals-bytes) (is-clean (a .1 .1 .1 .0) in-strict))
+
+-- a call of `ighzamrel_flatten_font` in strict does not answer 8; of its masks `says-the-same` tells (FontDemands.antt)
+module _ (κs : Lfts 7) (a : Dens κs font-kinds.ps) (x : AtExit (endedOf 7 font-kinds.ps font-kinds.r) κs) (in-strict : a .1 .1 .1 .0 ≡ 0 → ⊥)
+    (charstrings-bytes : Bytes (a .0 .now)) (globals-bytes : Bytes (a .1 .0 .now)) (locals-bytes : Bytes (a .1 .1 .0 .now)) where
+  pub font-not-eight : font-reads.Post κs a 8 x → ⊥
+  font-not-eight e =
+      tells-eight _ _ _ _ _ (answer-as e)
+      (λ v. never-eight-font (rulesOf (profileOf (a .1 .1 .1 .0))) (a .0 .now) (a .1 .0 .now) (a .1 .1 .0 .now) (a .1 .1 .1 .1 .0)
+      (a .1 .1 .1 .1 .1 .0 .now) v charstrings-bytes globals-bytes locals-bytes (is-clean (a .1 .1 .1 .0) in-strict))
