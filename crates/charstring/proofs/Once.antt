@@ -5,10 +5,11 @@ use mathlib.Core.Bool.{cond}
 use Prim.Native.Nat.{ℕ, _<_}
 use lib.Dec.{eqb}
 use lib.ListN.{length, getD}
+use borrow.Author.Tests.{eq-eqb}
 use borrow.Fn.Kinds.{Dens, resT, endedOf}
 use contract.Lifetimes.{Lfts}
 use denote.Triple.Clauses.{AtExit}
-use Rattle.number.specs.Answer.{Values, alone, atToken, needing, needingAt, atEntry, because, atGlyph, Answer, accepted, refused, lengthOr, tokensOr, entryOr, reasonOr}
+use Rattle.number.specs.Answer.{Values, alone, atToken, Answer, accepted, refused, lengthOr, tokensOr, entryOr, reasonOr}
 use Rattle.number.specs.AnswerLaws.{answer-as, left-as}
 use Rattle.index.proofs.Once.{flaw-of, flaw-undo}
 use Rattle.reading.specs.Rules.{rulesOf}
@@ -53,19 +54,13 @@ refusal-undo TooManyHints = refl
 refusal-undo Composite = refl
 refusal-undo OperandsAtMask = refl
 
--- the tokens tell the two ways apart
-pub stop-of : ℕ → Values → Stopped
-stop-of k alone = Alone (refusal-of k)
-stop-of k (atToken t) = At (refusal-of k) t
-stop-of k (needing n) = Alone (refusal-of k)
-stop-of k (needingAt n t) = Alone (refusal-of k)
-stop-of k (atEntry i) = Alone (refusal-of k)
-stop-of k (because j v) = Alone (refusal-of k)
-stop-of k (atGlyph i v) = Alone (refusal-of k)
+-- tokens come with one of the two, and whatever was there before stays with the other
+unfoldable pub stop-of : ℕ → Values → Stopped
+stop-of k v = cond (eqb (tokensOr 0 v) (tokensOr 1 v)) (At (refusal-of k) (tokensOr 0 v)) (Alone (refusal-of k))
 
 pub stop-undo : (w : Stopped) → stop-of (stopNumber w) (stopValues w) ≡ w
-unfolding stop-of
-stop-undo (At k t) = ap (λ (j : Refusal). At j t) (refusal-undo k)
+unfolding stop-of tokensOr
+stop-undo (At k t) = rw (eq-eqb t t refl) (ap (λ (j : Refusal). At j t) (refusal-undo k))
 stop-undo (Alone k) = ap Alone (refusal-undo k)
 
 flattened-of : Answer Flattening → Flattened

@@ -69,7 +69,8 @@ Light rules s = (s .mask ≡ 0) ⊎ (rules .clean ≡ true → s .count ≡ 0)
 -- the operands, hints and length after a mask operator
 pub data MaskFixed (rules : Rules) (s : State) (c h m : ℕ) : Type 0 where
   first : s .mask ≡ 0 → c ≡ 0 → h ≡ s .hints + s .count / 2 → m ≡ (h + 7) / 8 → MaskFixed rules s c h m
-  later : (s .mask ≡ 0 → ⊥) → (rules .clean ≡ true → s .count ≡ 0) → c ≡ s .count → h ≡ s .hints → m ≡ s .mask → MaskFixed rules s c h m
+  later : (s .mask ≡ 0 → ⊥) → (rules .clean ≡ true → s .count ≡ 0) → c ≡ s .count → h ≡ s .hints → m ≡ s .mask
+      → MaskFixed rules s c h m
 
 -- what an operator asks for, of a string of n bytes, where what stands behind it starts at j
 module _ (rules : Rules) (n j : ℕ) (p : Operator) (s : State) where
@@ -81,7 +82,8 @@ module _ (rules : Rules) (n j : ℕ) (p : Operator) (s : State) where
   abbrev pub Asked : Request → Type 0
   Asked (Push k o) = ⊥
   Asked (Clears k h q) = (q ≡ p) × (k ≡ j) × Hinted rules s p h
-  Asked (Masks a b c h q) = (q ≡ p) × (a ≡ j) × (rules .kind p ≡ Mask) × (h ≤ rules .hints) × (j ≤ b) × (b ≤ n) × MaskFixed rules s c h (b - j)
+  Asked (Masks a b c h q) =
+      (q ≡ p) × (a ≡ j) × (rules .kind p ≡ Mask) × (h ≤ rules .hints) × (j ≤ b) × (b ≤ n) × MaskFixed rules s c h (b - j)
   Asked (Calls k w) = (k ≡ j) × (rules .kind p ≡ Call w) × (0 < s .count)
   Asked Returns = rules .kind p ≡ Return
   Asked (Ends q) = (q ≡ p) × (rules .kind p ≡ End) × (s .count < 4)
@@ -113,7 +115,8 @@ module _ (rules : Rules) (cs : List ℕ) (i budget : ℕ) (s : State) where
   Looked (Push j o) = Pushes j o
   Looked (Clears j h p) = AtOperator cs i j (s .tokens) budget p × Hinted rules s p h
   Looked (Masks a b c h p) =
-      AtOperator cs i a (s .tokens) budget p × (rules .kind p ≡ Mask) × (h ≤ rules .hints) × (a ≤ b) × (b ≤ length cs) × MaskFixed rules s c h (b - a)
+      AtOperator cs i a (s .tokens) budget p × (rules .kind p ≡ Mask) × (h ≤ rules .hints) × (a ≤ b) × (b ≤ length cs)
+      × MaskFixed rules s c h (b - a)
   Looked (Calls j w) = CallsAt j w
   Looked Returns = (p : Operator) × (j : ℕ) × AtOperator cs i j (s .tokens) budget p × (rules .kind p ≡ Return)
   Looked (Ends p) = (j : ℕ) × AtOperator cs i j (s .tokens) budget p × (rules .kind p ≡ End) × (s .count < 4)

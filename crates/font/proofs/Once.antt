@@ -7,7 +7,7 @@ use lib.Dec.{eqb}
 use borrow.Fn.Kinds.{Dens, resT, endedOf}
 use contract.Lifetimes.{Lfts}
 use denote.Triple.Clauses.{AtExit}
-use Rattle.number.specs.Answer.{Values, alone, atToken, needing, needingAt, atEntry, because, atGlyph, Answer, accepted, refused, lengthOr, entryOr, reasonOr, glyphOr}
+use Rattle.number.specs.Answer.{Values, alone, atToken, atGlyph, Answer, accepted, refused, lengthOr, tokensOr, entryOr, reasonOr, glyphOr}
 use Rattle.number.specs.AnswerLaws.{answer-as, left-as}
 use Rattle.index.proofs.Once.{flaw-of, flaw-undo}
 use Rattle.reading.specs.declared.Refusal.{Refusal}
@@ -24,27 +24,17 @@ use Rattle.font.proofs.FontFlattened.number.Reads as number-reads
 use Rattle.font.proofs.flatten_font.Kinds as kinds
 use Rattle.font.proofs.flatten_font.Reads as reads
 
--- what comes with a glyph's refusal
-withGlyph : Values → Values
-withGlyph alone = alone
-withGlyph (atToken t) = alone
-withGlyph (needing n) = alone
-withGlyph (needingAt n t) = alone
-withGlyph (atEntry i) = alone
-withGlyph (because k v) = alone
-withGlyph (atGlyph i v) = v
-
 -- the way back, from what an answer says to the answer
 font-of : Answer ℕ → FontFlattened
 font-of (accepted n) = Written n
 font-of (refused k v) =
     cond (eqb k 1) (BadGlobals (flaw-of (reasonOr 0 v) (entryOr 0 v))) (cond (eqb k 2) (BadLocals (flaw-of (reasonOr 0 v) (entryOr 0 v)))
     (cond (eqb k 26) (BadCharstrings (flaw-of (reasonOr 0 v) (entryOr 0 v))) (cond (eqb k 23) TooLong
-    (cond (eqb k 13) (NoRoom (lengthOr 0 v)) (Refused (glyphOr 0 v) (stop-of k (withGlyph v)))))))
+    (cond (eqb k 13) (NoRoom (lengthOr 0 v)) (Refused (glyphOr 0 v) (stop-of k v))))))
 
 -- a glyph's refusal is none of 1, 2, 26, 23 and 13
 as-refused : (i : ℕ) (k : Refusal) (v : Values) → font-of (refused (numberOf k) (atGlyph i v)) ≡ Refused i (stop-of (numberOf k) v)
-unfolding font-of withGlyph
+unfolding font-of stop-of tokensOr
 as-refused i BudgetSpent v = refl
 as-refused i BytesLacking v = refl
 as-refused i TooManyOperands v = refl

@@ -96,5 +96,6 @@ RefusalDemand =
 -- by clean rules never 8
 abbrev pub NeverEight : Type 0
 NeverEight =
-    (rules : Rules) (charstrings globals locals : List ℕ) (budget : ℕ) (out : List ℕ) (v : Values) → Bytes charstrings → Bytes globals → Bytes locals
-    → rules .clean ≡ true → flattenFont rules charstrings globals locals budget out .answer ≡ refused 8 v → ⊥
+    (rules : Rules) (charstrings globals locals : List ℕ) (budget : ℕ) (out : List ℕ) (v : Values)
+    → Bytes charstrings → Bytes globals → Bytes locals → rules .clean ≡ true
+    → flattenFont rules charstrings globals locals budget out .answer ≡ refused 8 v → ⊥

@@ -1,12 +1,12 @@
 -- What strict adds, of the functions that users call: 8 is never answered, and in accepted bytes operands wait at no mask behind one with bytes.
 -- Stated over the contracts' own readings. Assumes nothing but that the lent slices hold bytes, which their type says.
-use mathlib.Core.Path.{_≡_, refl, sym, ap, _∙_}
+use mathlib.Core.Path.{_≡_, sym, ap}
 use mathlib.Core.Bool.{Bool, true, cond}
 use Prim.Native.Nat.{ℕ}
 use native.Mathlib.Omega.{arith}
 use lib.ListN.{take}
 use borrow.Author.Tests.{ne-eqb}
-use borrow.Fn.Kinds.{Dens, resT, endedOf}
+use borrow.Fn.Kinds.{Dens, endedOf}
 use contract.Lifetimes.{Lfts}
 use denote.Triple.Clauses.{AtExit}
 use Rattle.number.specs.Answer.{Values, Answer, accepted, refused}
@@ -17,7 +17,6 @@ use Rattle.reading.specs.Flat.{straight}
 use Rattle.reading.specs.Masks.{CleanMasks}
 use Rattle.reading.specs.DemandLaws.{masks-clean, never-eight}
 use Rattle.font.specs.RefusalLaws.{never-eight as never-eight-font}
-use Rattle.reading.specs.declared.Profile.{Profile}
 use Rattle.reading.specs.declared.Profile.the-variants.{Plain, Strict}
 use Rattle.ighzamrel.specs.Told.{Told, told, tell, profileOf}
 use Rattle.ighzamrel.proofs.Demands.{of-call, was-accepted}

@@ -40,7 +40,8 @@ abbrev placed : {A : Type 0} → List ℕ → Ready A → Bool → Outcome (Answ
 placed out r t = cond t (leaving (accepted (r .told)) (r .bytes ++ drop (length (r .bytes)) out)) (leaving (refused 13 (r .short)) out)
 
 -- bytes that are ready are refused with 13 only
-pub into-other : {A B : Type 0} (out : List ℕ) (r : Ready A) (k : ℕ) (v : Values) → (k ≡ 13 → ⊥) → into out (accepted r) .answer ≡ refused k v → B
+pub into-other : {A B : Type 0} (out : List ℕ) (r : Ready A) (k : ℕ) (v : Values) → (k ≡ 13 → ⊥)
+    → into out (accepted r) .answer ≡ refused k v → B
 unfolding into
 into-other {A} {B} out r k v h e = by-room (leb (length (r .bytes)) (length out)) e
   where

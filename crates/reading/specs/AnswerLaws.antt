@@ -60,7 +60,8 @@ module _ (out : List ℕ) (r : Run) (x : Flattening) where
   outcome-took q = ready-took (r .how) refl (into-accepted out (readyBy r (r .how)) x q)
 
 -- a refusal that is neither a list's nor the room's is the run's
-ready-stopped : (out : List ℕ) (r : Run) (k : ℕ) (v : Values) → (k ≡ 13 → ⊥) → (e : Ending) → into out (readyBy r e) .answer ≡ refused k v → e ≡ stopped k
+ready-stopped : (out : List ℕ) (r : Run) (k : ℕ) (v : Values) → (k ≡ 13 → ⊥) → (e : Ending)
+    → into out (readyBy r e) .answer ≡ refused k v → e ≡ stopped k
 unfolding readyBy into
 ready-stopped out r k v h (stopped n) q = let same : n ≡ k = cc in ap stopped same
 ready-stopped out r k v h back q = into-other out (flatReady r) k v h q
@@ -72,8 +73,9 @@ unfolding listGate
 gate-other j out (accepted n) y k v h q = q
 gate-other j out (refused i u) y k v h q = let same : j ≡ k = cc in absurd (h (sym same))
 
-pub run-stopped : (rules : Rules) (cs globals locals : List ℕ) (budget : ℕ) (out : List ℕ) (k : ℕ) (v : Values) → (k ≡ 1 → ⊥) → (k ≡ 2 → ⊥)
-    → (k ≡ 13 → ⊥) → flattening rules cs globals locals budget out .answer ≡ refused k v → original rules cs globals locals budget .how ≡ stopped k
+pub run-stopped : (rules : Rules) (cs globals locals : List ℕ) (budget : ℕ) (out : List ℕ) (k : ℕ) (v : Values)
+    → (k ≡ 1 → ⊥) → (k ≡ 2 → ⊥) → (k ≡ 13 → ⊥) → flattening rules cs globals locals budget out .answer ≡ refused k v
+    → original rules cs globals locals budget .how ≡ stopped k
 unfolding flattening outcome
 run-stopped rules cs globals locals budget out k v one two room q =
     let r = original rules cs globals locals budget in

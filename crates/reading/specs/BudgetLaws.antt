@@ -12,7 +12,8 @@ use Rattle.reading.specs.Lists.{Lists}
 use Rattle.reading.specs.Tokens.{cut}
 use Rattle.reading.specs.Reading.{State, start, closed, Ending, back, ended, stopped, Accepted, Run, tokensBy, tokens}
 use Rattle.reading.specs.Reading.{Step, halt, go, enter, refuse, onCut, onToken, resume, after, tokensOf, read, reading}
-use Rattle.reading.specs.StepLaws.{Begun, declines, goes, pushes, stems, clears, masks, enters, returns, ends, Stepped, spent, begun, begun-not-three, token-is}
+use Rattle.reading.specs.StepLaws.{Begun, declines, goes, pushes, stems, clears, masks, enters, returns, ends, Stepped, spent, begun}
+use Rattle.reading.specs.StepLaws.{begun-not-three, token-is}
 use Rattle.reading.specs.RunLaws.{Led, Kept, kept}
 
 -- how many tokens a state has shown

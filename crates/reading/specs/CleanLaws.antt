@@ -3,23 +3,23 @@ use mathlib.Core.Path.{_≡_, refl, sym, ap, subst, _∙_}
 use mathlib.Core.Bool.{Bool, true, false, cond, _&&_}
 use mathlib.Core.List.{List, [], _∷_}
 use mathlib.Core.Logic.{inl, inr}
-use Prim.Native.Nat.{ℕ, suc, _<_, _≤_}
+use Prim.Native.Nat.{ℕ, suc, _<_}
 use native.Mathlib.Omega.{arith}
 use lib.Dec.{eqb, ltb}
 use lib.ListN.{length}
-use borrow.Author.Tests.{ltb-false, lt-ltb, eqb-true, eqb-false, eq-eqb, ne-eqb}
+use borrow.Author.Tests.{ltb-false, lt-ltb, eqb-false, ne-eqb}
 use Rattle.reading.specs.Rules.{Rules}
 use Rattle.reading.specs.Lists.{Lists}
 use Rattle.reading.specs.Tokens.{Bytes}
 use Rattle.reading.specs.Items.{Item, operand, bare, masked, Left, atMask, leftOver, byKind, leaves, leftBy}
 use Rattle.reading.specs.Reading.{struck, State, Ending, back, ended, stopped, Run, endsInOperand, reading}
 use Rattle.reading.specs.Masks.{waiting, hasMask, CleanMasks}
-use Rattle.reading.specs.Valid.{Valid, none, number-behind, stem-behind, clear-behind, mask-behind, Whole, open-ended, end-behind, Good, Ends, ByteLists}
+use Rattle.reading.specs.Valid.{Valid, none, number-behind, stem-behind, clear-behind, mask-behind, Whole, open-ended, end-behind}
+use Rattle.reading.specs.Valid.{Good, Ends, ByteLists}
 use Rattle.reading.specs.ValidLaws.{run-ends}
-use Rattle.reading.specs.StepLaws.{Declined, simply, not-last, left-over}
+use Rattle.reading.specs.StepLaws.{Declined, simply, not-last}
 use Rattle.reading.specs.StopLaws.{StopsBy, run-stops-by}
 use Rattle.reading.specs.declared.Kind.{Kind}
-use Rattle.reading.specs.declared.Kind.the-variants.{Stem, Clear}
 
 module _ (rules : Rules) (clean : rules .clean ≡ true) where
   -- where the length is fixed nothing waits at a mask

@@ -1,11 +1,10 @@
 -- The demands, proved: each theorem has the type that Demands.antt states. Assumes nothing.
-use mathlib.Core.Path.{sym, ap, subst, _∙_}
+use mathlib.Core.Path.{sym, subst}
 use mathlib.Core.List.{List}
 use native.Mathlib.Omega.{arith}
 use Rattle.reading.specs.Rules.{plain, strict}
 use Rattle.reading.specs.Lists.{listsOf}
 use Rattle.reading.specs.Items.{Item}
-use Rattle.reading.specs.Flat.{Straight, straight}
 use Rattle.reading.specs.Masks.{StemsFirst, ByNote, CleanMasks}
 use Rattle.reading.specs.Demands.{SameGlyph, DemandThree, MasksByNote, MasksClean, NeverEight, WithinBudget, EnoughBudget, SmallBudget, StrictThenPlain}
 use Rattle.reading.specs.AnswerLaws.{answer-within, answer-enough, answer-short, answer-looser, run-stopped}

@@ -105,7 +105,9 @@ module _ (rules : Rules) (lists : Lists) (levels at : ℕ) (bytes : List ℕ) (s
 
       view-end : rules .kind p ≡ End → View (onEnd rules rest s p)
       unfolding onEnd
-      view-end k = either (ltb (length (s .left .operands)) 4) _ _ (λ t. goes _ (ends p rest q k (ltb-true _ _ t))) (λ t. no 12 (lit≤ tt) (lit≤ tt) (λ e. omega arith))
+      view-end k =
+          either (ltb (length (s .left .operands)) 4) _ _
+          (λ t. goes _ (ends p rest q k (ltb-true _ _ t))) (λ t. no 12 (lit≤ tt) (lit≤ tt) (λ e. omega arith))
 
       module _ (which : Which) (k : rules .kind p ≡ Call which) (o : Operand) (ops : List Operand) (h : s .left .operands ≡ o ∷ ops) where
         abbrev named : ℕ → Entering
@@ -201,7 +203,8 @@ module _ (rules : Rules) (lists : Lists) (budget levels at : ℕ) (bytes : List 
     unfolding onOperator
     clear-taken = refl
 
-    mask-taken : leftOver rules (s .left) ≡ false → atMask (s .left) .hints ≤ rules .hints → atMask (s .left) .mask ≤ length rest → onOperator rules lists levels at rest s p Mask
+    mask-taken : leftOver rules (s .left) ≡ false → atMask (s .left) .hints ≤ rules .hints → atMask (s .left) .mask ≤ length rest
+        → onOperator rules lists levels at rest s p Mask
         ≡ go (drop (atMask (s .left) .mask) rest) (shows (masked p (take (atMask (s .left) .mask) rest)) (atMask (s .left)) s)
     unfolding onOperator onMask
     mask-taken w l m = rw (w, le-leb (atMask (s .left) .hints) (rules .hints) l, le-leb (atMask (s .left) .mask) (length rest) m)

@@ -47,7 +47,16 @@ pub record Tighter (a b : Rules) : Type 0 where
 
 -- strict and plain differ in nothing else
 pub strict-tighter : Tighter strict plain
-strict-tighter = record { operands = le-refl 48; levels = lit≤ tt; hints = lit≤ tt; exact = λ e. refl; clean = λ e. refl; width = refl; kind = λ p. refl }
+strict-tighter =
+    record {
+      operands = le-refl 48;
+      levels = lit≤ tt;
+      hints = lit≤ tt;
+      exact = λ e. refl;
+      clean = λ e. refl;
+      width = refl;
+      kind = λ p. refl;
+    }
 
 loose-callee : (t u : Bool) → (u ≡ true → t ≡ true) → (n : ℕ) (o : Operand) (k : ℕ)
     → callee t n o ≡ accepted k → callee u n o ≡ accepted k

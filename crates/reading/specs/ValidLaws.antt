@@ -10,18 +10,17 @@ use lib.Seq.{length-take-le}
 use Rattle.number.specs.RoundTripLaws.{Spellable}
 use Rattle.number.specs.declared.Operand.{Operand}
 use Rattle.reading.specs.Rules.{Rules}
-use Rattle.reading.specs.Lists.{Lists, present, listed}
+use Rattle.reading.specs.Lists.{Lists}
 use Rattle.reading.specs.Tokens.{number, operator, token, cut, Bytes}
 use Rattle.reading.specs.CutLaws.{cut-off, bytes-drop}
 use Rattle.reading.specs.Items.{Item, operand, bare, masked, Left, pushed, popped, cleared, counted, atMask, leftOver, byKind, leaves, leftBy}
-use Rattle.reading.specs.Reading.{Entering, item, call, return, struck, State, shows}
+use Rattle.reading.specs.Reading.{Entering, call, return, struck, State, shows}
 use Rattle.reading.specs.Reading.{start, Ending, back, ended, stopped, Step, endsInOperand, reading}
-use Rattle.reading.specs.Valid.{Cuttable, Valid, none, number-behind, stem-behind, clear-behind, mask-behind, Whole, open-ended, end-behind}
+use Rattle.reading.specs.Valid.{Cuttable, Valid, none, number-behind, stem-behind, clear-behind, mask-behind, end-behind}
 use Rattle.reading.specs.Valid.{Taken, Good, Ended, Ends, ByteLists}
 use Rattle.reading.specs.StepLaws.{declines, goes, Goes, pushes, stems, clears, masks, enters, returns, ends, Stepped, spent, begun, token-is}
 use Rattle.reading.specs.RunLaws.{Led, Kept, kept}
 use Rattle.reading.specs.declared.Operator.{Operator}
-use Rattle.reading.specs.declared.Which.{Which}
 use Rattle.reading.specs.declared.Kind.{Kind}
 use Rattle.reading.specs.declared.Kind.the-variants.{Stem, Clear, Mask, End}
 

@@ -3,7 +3,6 @@ use Rattle.reading.proofs.Refusal as refusal-type
 use Rattle.reading.specs.declared.Refusal.the-variants.{BudgetSpent, BytesLacking, TooManyOperands, UnknownOperator, NoIndex}
 use Rattle.reading.specs.declared.Refusal.the-variants.{IndexNotLast, NoEntry, TooDeep, TooManyHints, Composite, OperandsAtMask}
 use Rattle.reading.specs.declared.Refusal.{Refusal}
-use Rattle.reading.specs.declared.Stopped.{Stopped}
 use Rattle.reading.specs.declared.Stopped.the-variants.{At, Alone}
 use Rattle.reading.specs.Answers.{numberOf}
 use Rattle.reading.specs.Reading.{tokensBy, stopped}
@@ -12,7 +11,7 @@ use denote.Enum.Declared.{tagOf}
 use types.Run.{OneOf, miss}
 use Prim.Native.Nat.{ℕ, _+_}
 use mathlib.Core.List.{List, [], _∷_}
-use mathlib.Core.Path.{_≡_, refl, sym, ap, subst}
+use mathlib.Core.Path.{_≡_, refl, sym, subst}
 use borrow.Author.Needs.{needs}
 use Rattle.charstring.proofs.flattening.stopped_by.Statement.{statement}
 use Rattle.charstring.proofs.flattening.stopped_by.Tie as tie
