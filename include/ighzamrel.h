@@ -70,7 +70,10 @@ enum ighzamrel_kind {
     IGHZAMREL_FIXED = 1 /* a value that counts 65536ths */
 };
 
-/* The rules to run by, `profile`. What is not 0 is taken as strict. */
+/*
+ * The rules to run by, `profile`. What is not 0 is taken as strict: Technical Note 5177's limits, an index that is exactly
+ * whole, and no operands at a mask once an earlier one has fixed its length. Where strict accepts, plain gives the same.
+ */
 enum ighzamrel_profile {
     IGHZAMREL_PLAIN = 0,
     IGHZAMREL_STRICT = 1

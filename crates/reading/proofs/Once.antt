@@ -16,6 +16,8 @@ use Rattle.reading.specs.declared.Kind.{Kind}
 use Rattle.reading.specs.declared.Kind.the-variants.{Stem, Clear, Mask, Call, Return, End, Unknown}
 use Rattle.reading.proofs.number_of.Kinds as number-kinds
 use Rattle.reading.proofs.number_of.Reads as number-reads
+use Rattle.reading.proofs.Stopped.number.Kinds as stop-kinds
+use Rattle.reading.proofs.Stopped.number.Reads as stop-reads
 use Rattle.reading.proofs.Flattened.number.Kinds as answer-kinds
 use Rattle.reading.proofs.Flattened.number.Reads as answer-reads
 use Rattle.reading.proofs.rules_of.Kinds as rules-kinds
@@ -24,6 +26,10 @@ use Rattle.reading.proofs.rules_of.Reads as rules-reads
 pub number-of-once : (κs : Lfts 0) (a : Dens κs number-kinds.ps) (r r′ : resT number-kinds.r κs .Denot)
     (x x′ : AtExit (endedOf 0 number-kinds.ps number-kinds.r) κs) → number-reads.Post κs a r x → number-reads.Post κs a r′ x′ → r ≡ r′
 number-of-once κs a r r′ x x′ p p′ = p ∙ sym p′
+
+pub stop-number-once : (κs : Lfts 0) (a : Dens κs stop-kinds.ps) (r r′ : resT stop-kinds.r κs .Denot)
+    (x x′ : AtExit (endedOf 0 stop-kinds.ps stop-kinds.r) κs) → stop-reads.Post κs a r x → stop-reads.Post κs a r′ x′ → r ≡ r′
+stop-number-once κs a r r′ x x′ p p′ = p ∙ sym p′
 
 pub answer-number-once : (κs : Lfts 0) (a : Dens κs answer-kinds.ps) (r r′ : resT answer-kinds.r κs .Denot)
     (x x′ : AtExit (endedOf 0 answer-kinds.ps answer-kinds.r) κs) → answer-reads.Post κs a r x → answer-reads.Post κs a r′ x′ → r ≡ r′
