@@ -17,7 +17,7 @@ use Rattle.reading.specs.Reading.{original}
 use Rattle.reading.specs.Answers.{Flattening, flatOf, numberOf, stopNumber, stopValues, flattened}
 use Rattle.reading.specs.declared.Refusal.{Refusal}
 use Rattle.reading.specs.declared.Refusal.the-variants.{BudgetSpent, BytesLacking, TooManyOperands, UnknownOperator, NoIndex}
-use Rattle.reading.specs.declared.Refusal.the-variants.{IndexNotLast, NoEntry, TooDeep, TooManyHints, Composite, OperandsAtMask}
+use Rattle.reading.specs.declared.Refusal.the-variants.{IndexNotLast, NoEntry, TooDeep, TooManyHints, Composite, OperandsAtMask, NoEndchar}
 use Rattle.reading.specs.declared.Stopped.{Stopped}
 use Rattle.reading.specs.declared.Stopped.the-variants.{At, Alone}
 use Rattle.reading.specs.declared.Flattened.{Flattened}
@@ -38,7 +38,7 @@ pub refusal-of : ℕ → Refusal
 refusal-of k =
     cond (eqb k 3) BudgetSpent (cond (eqb k 4) BytesLacking (cond (eqb k 5) TooManyOperands (cond (eqb k 6) UnknownOperator (cond (eqb k 7) NoIndex
     (cond (eqb k 8) IndexNotLast (cond (eqb k 9) NoEntry (cond (eqb k 10) TooDeep (cond (eqb k 11) TooManyHints (cond (eqb k 12) Composite
-    OperandsAtMask)))))))))
+    (cond (eqb k 15) OperandsAtMask NoEndchar))))))))))
 
 pub refusal-undo : (k : Refusal) → refusal-of (numberOf k) ≡ k
 unfolding refusal-of
@@ -53,6 +53,7 @@ refusal-undo TooDeep = refl
 refusal-undo TooManyHints = refl
 refusal-undo Composite = refl
 refusal-undo OperandsAtMask = refl
+refusal-undo NoEndchar = refl
 
 -- tokens come with one of the two, and whatever was there before stays with the other
 unfoldable pub stop-of : ℕ → Values → Stopped
@@ -83,6 +84,7 @@ as-refused TooDeep v = refl
 as-refused TooManyHints v = refl
 as-refused Composite v = refl
 as-refused OperandsAtMask v = refl
+as-refused NoEndchar v = refl
 
 flattened-undo : (r : Flattened) → flattened-of (flattened r) ≡ r
 unfolding flattened-of tokensOr entryOr

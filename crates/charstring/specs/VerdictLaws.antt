@@ -8,14 +8,15 @@ use native.Mathlib.Omega.{arith}
 use lib.Dec.{leb, lit≤}
 use lib.ListN.{length, take, drop}
 use lib.Seq.{length-take-le, take-all}
-use Rattle.number.specs.Answer.{Values, Answer, accepted, refused, alone, atToken, needingAt, mapped, leaving, Ready, into}
-use Rattle.number.specs.AnswerLaws.{refused-accepted, accepted-same, into-fits, into-short}
+use Rattle.number.specs.Answer.{Values, Answer, accepted, refused, alone, atToken, needingAt, leaving, Ready, into}
+use Rattle.number.specs.AnswerLaws.{refused-accepted, accepted-same, mapped-refused, into-fits, into-short}
 use Rattle.reading.specs.Rules.{Rules, rulesOf, meant}
 use Rattle.reading.specs.Items.{leftBy}
-use Rattle.reading.specs.Reading.{struck, start, Ending as How, back, ended, stopped, Run, tokensBy, tokens, reading, original}
+use Rattle.reading.specs.Reading.{struck, start, Ending as How, back, stopped, Run, tokensBy, tokens, reading, original}
 use Rattle.reading.specs.Valid.{none}
 use Rattle.reading.specs.Flat.{flat}
-use Rattle.reading.specs.Answers.{Flattening, flatOf, flatReady, readyBy, verdict, outcome, numberOf, comesWith, stopNumber, stopValues}
+use Rattle.reading.specs.Answers.{Flattening, flatOf, flatReady, readyBy, judged, toldIn, verdict, outcome, numberOf, comesWith, stopNumber, stopValues}
+use Rattle.reading.specs.AnswerLaws.{AcceptedBy, came-to-end, Judged, takes, turns-down, judged-so, judged-accepted, accepted-tokens}
 use Rattle.reading.specs.declared.Rules.{Rules as CodeRules}
 use Rattle.reading.specs.declared.Profile.{Profile}
 use Rattle.reading.specs.declared.Profile.the-variants.{Plain, Strict}
@@ -107,22 +108,28 @@ module _ (rules : Rules) (stack₁ out₁ : List ℕ) (r : Ran) (x : Run) (d : D
   abbrev measured : Flattening
   measured = record { size = r .st .length; tokens = r .st .tokens }
 
-  flat-by : (e : How) → x .how ≡ e → tokensBy (length (x .state .shown)) e ≡ length (x .state .shown) → readyBy x e ≡ accepted (flatReady x)
-      → accepted measured ≡ verdict x
+  flat-so : AcceptedBy rules (x .how) → accepted measured ≡ verdict rules x
   unfolding verdict
-  flat-by e h t v =
-      let count : r .st .tokens ≡ tokens x = sym (d .tokens-are) ∙ sym t ∙ ap (tokensBy (length (x .state .shown))) (sym h) in
+  flat-so a =
+      let count : r .st .tokens ≡ tokens x = sym (d .tokens-are) ∙ sym (accepted-tokens (x .how) _ (came-to-end rules (x .how) a)) in
       ap (λ (n : ℕ). accepted (record { size = n; tokens = r .st .tokens })) (sym (d .length-is))
       ∙ ap (λ (n : ℕ). accepted (record { size = length (flatOf x); tokens = n })) count
-      ∙ ap (mapped (λ (y : Ready Flattening). y .told)) (sym v ∙ ap (readyBy x) (sym h))
+      ∙ ap toldIn (sym (judged-accepted rules x a))
 
-  pub came-back : r .how ≡ Back → accepted measured ≡ verdict x
-  unfolding readyBy tokensBy
-  came-back e = flat-by back (sym (d .how) ∙ ap howOf e) refl refl
+  back-is : r .how ≡ Back → back ≡ x .how
+  back-is e = sym (ap howOf e) ∙ d .how
 
-  pub all-ended : r .how ≡ Ended → accepted measured ≡ verdict x
-  unfolding readyBy tokensBy
-  all-ended e = flat-by ended (sym (d .how) ∙ ap howOf e) refl refl
+  pub came-back : r .how ≡ Back → rules .finished ≡ false → accepted measured ≡ verdict rules x
+  came-back e f = flat-so (subst (AcceptedBy rules) (back-is e) f)
+
+  pub unfinished : r .how ≡ Back → rules .finished ≡ true → refused 16 alone ≡ verdict rules x
+  unfolding verdict judged readyBy
+  unfinished e f =
+      ap (λ (b : Bool). toldIn (cond b (refused 16 alone) (accepted (flatReady x)))) (sym f)
+      ∙ ap (λ (h : How). toldIn (readyBy rules x h)) (back-is e)
+
+  pub all-ended : r .how ≡ Ended → accepted measured ≡ verdict rules x
+  all-ended e = flat-so (subst (AcceptedBy rules) (sym (ap howOf e) ∙ d .how) tt)
 
   module _ (k : Refusal) (e : r .how ≡ Refused k) where
     stopped-is : x .how ≡ stopped (numberOf k)
@@ -131,50 +138,43 @@ module _ (rules : Rules) (stack₁ out₁ : List ℕ) (r : Ran) (x : Run) (d : D
     tokens-is : tokens x ≡ tokensBy (r .st .tokens) (stopped (numberOf k))
     tokens-is = ap (tokensBy (length (x .state .shown))) stopped-is ∙ ap (λ (n : ℕ). tokensBy n (stopped (numberOf k))) (d .tokens-are)
 
-    pub was-stopped : (w : Stopped) → w ≡ stopAs k (tokensBy (r .st .tokens) (stopped (numberOf k))) → refused (stopNumber w) (stopValues w) ≡ verdict x
-    unfolding verdict readyBy
+    pub was-stopped : (w : Stopped) → w ≡ stopAs k (tokensBy (r .st .tokens) (stopped (numberOf k)))
+        → refused (stopNumber w) (stopValues w) ≡ verdict rules x
+    unfolding verdict judged readyBy
     was-stopped w q =
         ap (λ (y : Stopped). refused (stopNumber y) (stopValues y)) (q ∙ ap (stopAs k) (sym tokens-is)) ∙ told-so k (tokens x)
-        ∙ ap (λ (h : How). mapped (λ (y : Ready Flattening). y .told) (readyBy x h)) (sym stopped-is)
+        ∙ ap (λ (h : How). toldIn (readyBy rules x h)) (sym stopped-is)
 
     pub few-tokens : (budget : ℕ) → tokens x ≤ budget → budget < 4294967296 → tokensBy (r .st .tokens) (stopped (numberOf k)) < 4294967296
     few-tokens budget l h = subst (λ (n : ℕ). n < 4294967296) tokens-is (lt-of-le-of-lt l h)
 
 -- ---- the outcome
 
-module _ (out : List ℕ) (x : Run) where
+module _ (rules : Rules) (out : List ℕ) (x : Run) where
   abbrev Answers : Answer Flattening → List ℕ → Type 0
-  Answers a l = leaving a l ≡ outcome out x
+  Answers a l = leaving a l ≡ outcome rules out x
 
   -- a run that was refused
-  pub by-refusal : (k : ℕ) (v : Values) → refused k v ≡ verdict x → Answers (refused k v) out
+  pub by-refusal : (k : ℕ) (v : Values) → refused k v ≡ verdict rules x → Answers (refused k v) out
   unfolding outcome verdict into
-  by-refusal k v e = go (readyBy x (x .how)) e
-    where
-      go : (y : Answer (Ready Flattening)) → refused k v ≡ mapped (λ (z : Ready Flattening). z .told) y → leaving (refused k v) out ≡ into out y
-      go (accepted r) q = refused-accepted q
-      go (refused n w) q = ap (λ (a : Answer Flattening). leaving a out) q
+  by-refusal k v e = ap (into out) (sym (mapped-refused (λ (y : Ready Flattening). y .told) (judged rules x) k v (sym e)))
 
-  module _ (n t : ℕ) (e : accepted (record { size = n; tokens = t }) ≡ verdict x) where
+  module _ (n t : ℕ) (e : accepted (record { size = n; tokens = t }) ≡ verdict rules x) where
     record Is : Type 0 where
       size : n ≡ length (flatOf x)
       count : t ≡ tokens x
-      ready-is : readyBy x (x .how) ≡ accepted (flatReady x)
+      judged-is : judged rules x ≡ accepted (flatReady x)
 
     is : Is
-    unfolding verdict readyBy
-    is = go (x .how) refl e
+    unfolding verdict
+    is = go (judged rules x) refl (judged-so rules x) e
       where
-        flat-is : accepted (record { size = n; tokens = t }) ≡ accepted (flatReady x .told)
-            → readyBy x (x .how) ≡ accepted (flatReady x) → Is
-        flat-is v q =
+        go : (y : Answer (Ready Flattening)) → judged rules x ≡ y → Judged rules x y
+            → accepted (record { size = n; tokens = t }) ≡ toldIn y → Is
+        go y q (takes a) v =
             let same = accepted-same v in
-            record { size = ap (λ (y : Flattening). y .size) same; count = ap (λ (y : Flattening). y .tokens) same; ready-is = q }
-
-        go : (h : How) → x .how ≡ h → accepted (record { size = n; tokens = t }) ≡ mapped (λ (z : Ready Flattening). z .told) (readyBy x h) → Is
-        go back q v = flat-is v (ap (readyBy x) q)
-        go ended q v = flat-is v (ap (readyBy x) q)
-        go (stopped m) q v = refused-accepted (sym v)
+            record { size = ap (λ (z : Flattening). z .size) same; count = ap (λ (z : Flattening). z .tokens) same; judged-is = q }
+        go y q (turns-down k b) v = refused-accepted (sym v)
 
     pub by-short : length out < n → Answers (refused 13 (needingAt n t)) out
     unfolding outcome
@@ -182,7 +182,7 @@ module _ (out : List ℕ) (x : Run) where
         let i = is in
         ap (λ (m : ℕ). leaving (refused 13 (needingAt m t)) out) (i .size)
         ∙ ap (λ (m : ℕ). leaving (refused 13 (needingAt (length (flatOf x)) m)) out) (i .count)
-        ∙ sym (into-short out (flatReady x) (let s = i .size in omega arith)) ∙ ap (into out) (sym (i .ready-is))
+        ∙ sym (into-short out (flatReady x) (let s = i .size in omega arith)) ∙ ap (into out) (sym (i .judged-is))
 
     by-flat : n ≤ length out → (l : List ℕ) → l ≡ flatOf x ++ drop n out → Answers (accepted (record { size = n; tokens = t })) l
     unfolding outcome
@@ -191,7 +191,7 @@ module _ (out : List ℕ) (x : Run) where
         ap (leaving (accepted (record { size = n; tokens = t }))) q
         ∙ ap (λ (m : ℕ). leaving (accepted (record { size = m; tokens = t })) (flatOf x ++ drop m out)) (i .size)
         ∙ ap (λ (m : ℕ). leaving (accepted (record { size = length (flatOf x); tokens = m })) (flatOf x ++ drop (length (flatOf x)) out)) (i .count)
-        ∙ sym (into-fits out (flatReady x) (let s = i .size in omega arith)) ∙ ap (into out) (sym (i .ready-is))
+        ∙ sym (into-fits out (flatReady x) (let s = i .size in omega arith)) ∙ ap (into out) (sym (i .judged-is))
 
     -- the flat string was held, and its n bytes are copied
     pub by-held : n ≤ length out → (m : List ℕ) → Begins m (flatOf x) → n ≤ length m → (l : List ℕ) → l ≡ take n m ++ drop n out

@@ -61,7 +61,8 @@ pub fn write<'a>(
     out: &mut [u8],
 ) -> Flattened
     ensures { λ r. ⌜ record { answer = flattened r; left = now (out .exit) }
-        ≡ outcome (now (out .entry)) (original (rulesOf profile) (now (cs .entry)) (now (globals .entry)) (now (locals .entry)) budget) ⌝ }
+        ≡ outcome (rulesOf profile) (now (out .entry))
+        (original (rulesOf profile) (now (cs .entry)) (now (globals .entry)) (now (locals .entry)) budget) ⌝ }
 {
     let mut held = [0u8; 2048];
     let verdict = draft(cs, globals, locals, profile, budget, &mut held);
@@ -87,7 +88,8 @@ pub fn measure<'a>(
     profile: Profile,
     budget: u32,
 ) -> Flattened
-    ensures { λ r. ⌜ flattened r ≡ verdict (original (rulesOf profile) (now (cs .entry)) (now (globals .entry)) (now (locals .entry)) budget) ⌝ }
+    ensures { λ r. ⌜ flattened r
+        ≡ verdict (rulesOf profile) (original (rulesOf profile) (now (cs .entry)) (now (globals .entry)) (now (locals .entry)) budget) ⌝ }
 {
     let mut held = [0u8; 1];
     draft(cs, globals, locals, profile, budget, &mut held)
@@ -103,7 +105,8 @@ pub fn draft<'a>(
     budget: u32,
     held: &mut [u8],
 ) -> Flattened
-    ensures { λ r. ⌜ flattened r ≡ verdict (original (rulesOf profile) (now (cs .entry)) (now (globals .entry)) (now (locals .entry)) budget) ⌝ }
+    ensures { λ r. ⌜ flattened r
+        ≡ verdict (rulesOf profile) (original (rulesOf profile) (now (cs .entry)) (now (globals .entry)) (now (locals .entry)) budget) ⌝ }
     ensures { λ r. ⌜ Begins (now (held .exit))
         (flatOf (original (rulesOf profile) (now (cs .entry)) (now (globals .entry)) (now (locals .entry)) budget)) ⌝ }
 {
@@ -130,7 +133,8 @@ fn draft_by<'a>(
     held: &mut [u8],
 ) -> Flattened
     requires { ⌜ Roomy rules (now stack) ⌝ }
-    ensures { λ r. ⌜ flattened r ≡ verdict (original (meant rules) (now (cs .entry)) (now (globals .entry)) (now (locals .entry)) budget) ⌝ }
+    ensures { λ r. ⌜ flattened r
+        ≡ verdict (meant rules) (original (meant rules) (now (cs .entry)) (now (globals .entry)) (now (locals .entry)) budget) ⌝ }
     ensures { λ r. ⌜ Begins (now (held .exit))
         (flatOf (original (meant rules) (now (cs .entry)) (now (globals .entry)) (now (locals .entry)) budget)) ⌝ }
 {
@@ -148,7 +152,12 @@ fn draft_by<'a>(
     let how = r.how;
     let st = r.st;
     match how {
-        Ending::Back => Flattened::Accepted(st.length, st.tokens),
+        Ending::Back => {
+            if rules.finished {
+                return Flattened::Refused(Stopped::Alone(Refusal::NoEndchar));
+            }
+            Flattened::Accepted(st.length, st.tokens)
+        }
         Ending::Ended => Flattened::Accepted(st.length, st.tokens),
         Ending::Refused(k) => Flattened::Refused(stopped_by(k, st.tokens)),
     }
@@ -189,16 +198,15 @@ fn count_of(list: &[u8], width: Width) -> u32
     count
 }
 
-// What a refused run tells: its tokens, of which a refusal but 3 counts the one that it refuses; with 15 nothing.
+// What a refused run tells: its tokens, of which a refusal but 3 counts the one that it refuses; with 15 and 16 nothing.
 fn stopped_by(k: Refusal, tokens: u32) -> Stopped
     requires { ⌜ tokensBy tokens (stopped (numberOf k)) < 4294967296 ⌝ }
     ensures { λ r. ⌜ r ≡ stopAs k (tokensBy tokens (stopped (numberOf k))) ⌝ }
 {
-    if let Refusal::BudgetSpent = k {
-        return Stopped::At(k, tokens);
+    match k {
+        Refusal::BudgetSpent => Stopped::At(k, tokens),
+        Refusal::OperandsAtMask => Stopped::Alone(k),
+        Refusal::NoEndchar => Stopped::Alone(k),
+        _ => Stopped::At(k, tokens + 1),
     }
-    if let Refusal::OperandsAtMask = k {
-        return Stopped::Alone(k);
-    }
-    Stopped::At(k, tokens + 1)
 }

@@ -12,7 +12,7 @@ use Rattle.number.specs.AnswerLaws.{answer-as, left-as}
 use Rattle.index.proofs.Once.{flaw-of, flaw-undo}
 use Rattle.reading.specs.declared.Refusal.{Refusal}
 use Rattle.reading.specs.declared.Refusal.the-variants.{BudgetSpent, BytesLacking, TooManyOperands, UnknownOperator, NoIndex}
-use Rattle.reading.specs.declared.Refusal.the-variants.{IndexNotLast, NoEntry, TooDeep, TooManyHints, Composite, OperandsAtMask}
+use Rattle.reading.specs.declared.Refusal.the-variants.{IndexNotLast, NoEntry, TooDeep, TooManyHints, Composite, OperandsAtMask, NoEndchar}
 use Rattle.reading.specs.declared.Stopped.the-variants.{At, Alone}
 use Rattle.reading.specs.Answers.{numberOf}
 use Rattle.charstring.proofs.Once.{stop-of, stop-undo}
@@ -46,6 +46,7 @@ as-refused i TooDeep v = refl
 as-refused i TooManyHints v = refl
 as-refused i Composite v = refl
 as-refused i OperandsAtMask v = refl
+as-refused i NoEndchar v = refl
 
 font-undo : (r : FontFlattened) → font-of (fontFlattened r) ≡ r
 unfolding font-of entryOr

@@ -7,6 +7,7 @@ use types.Run.{OneOf, miss}
 use denote.Enum.Declared.{tagOf}
 use Rattle.number.specs.Answer.{Values, Answer, accepted, refused, alone, atToken, needingAt, because, atGlyph}
 use Rattle.number.specs.AnswerLaws.{refused-accepted}
+use Rattle.reading.specs.Rules.{Rules}
 use Rattle.reading.specs.Reading.{Run}
 use Rattle.reading.specs.Answers.{Flattening, flattened, verdict, stopNumber, stopValues}
 use Rattle.reading.specs.declared.Flattened.{Flattened}
@@ -36,17 +37,18 @@ needing-alone e = let z : _≡_ {A = ℕ} 0 1 = cc in omega arith
 -- a verdict is no other answer
 pub not-of-run : (r : Flattened) → OneOf Others (tagOf flattened-type.the-type r) → OfRun (flattened r) → ⊥
 not-of-run (Accepted n t) k o = o
-not-of-run (BadGlobals f) k o = because-token (verdict-with (o .0) _ _ (o .1))
-not-of-run (BadLocals f) k o = because-token (verdict-with (o .0) _ _ (o .1))
+not-of-run (BadGlobals f) k o = because-token (verdict-with (o .0) (o .1) _ _ (o .2))
+not-of-run (BadLocals f) k o = because-token (verdict-with (o .0) (o .1) _ _ (o .2))
 not-of-run (Refused w) k o = miss Others 3 tt k
-not-of-run (NoRoom n t) k o = needing-alone (verdict-with (o .0) _ _ (o .1))
+not-of-run (NoRoom n t) k o = needing-alone (verdict-with (o .0) (o .1) _ _ (o .2))
 
-pub of-run : (r : Flattened) (x : Run) → OneOf Refusals (tagOf flattened-type.the-type r) → flattened r ≡ verdict x → OfRun (flattened r)
-of-run (Accepted n t) x k e = absurd (miss Refusals 0 tt k)
-of-run (BadGlobals f) x k e = (x, e)
-of-run (BadLocals f) x k e = (x, e)
-of-run (Refused w) x k e = (x, e)
-of-run (NoRoom n t) x k e = (x, e)
+pub of-run : (r : Flattened) (rules : Rules) (x : Run) → OneOf Refusals (tagOf flattened-type.the-type r) → flattened r ≡ verdict rules x
+    → OfRun (flattened r)
+of-run (Accepted n t) rules x k e = absurd (miss Refusals 0 tt k)
+of-run (BadGlobals f) rules x k e = (rules, x, e)
+of-run (BadLocals f) rules x k e = (rules, x, e)
+of-run (Refused w) rules x k e = (rules, x, e)
+of-run (NoRoom n t) rules x k e = (rules, x, e)
 
 pub not-accepted : (r : Flattened) → OneOf Refusals (tagOf flattened-type.the-type r) → (x : Flattening) → flattened r ≡ accepted x → ⊥
 not-accepted (Accepted n t) k x e = miss Refusals 0 tt k
@@ -56,9 +58,9 @@ not-accepted (Refused w) k x e = refused-accepted e
 not-accepted (NoRoom n t) k x e = refused-accepted e
 
 -- the first glyph that is refused, told
-pub told-stopped : (glyph : ℕ → Answer (List ℕ)) (i n : ℕ) (lengths joined : List ℕ) (a : Answer Flattening) (x : Run) (s : Survey)
-    → i < n → Ran glyph i → glyph i ≡ flatIn x → a ≡ verdict x → StoppedAt i a s → Surveyed glyph n lengths joined s
-told-stopped glyph i n lengths joined a x (Flat sum) h r g v st = absurd st
-told-stopped glyph i n lengths joined a x (Told j w) h r g v st =
+pub told-stopped : (glyph : ℕ → Answer (List ℕ)) (i n : ℕ) (lengths joined : List ℕ) (a : Answer Flattening) (rules : Rules) (x : Run) (s : Survey)
+    → i < n → Ran glyph i → glyph i ≡ flatIn rules x → a ≡ verdict rules x → StoppedAt i a s → Surveyed glyph n lengths joined s
+told-stopped glyph i n lengths joined a rules x (Flat sum) h r g v st = absurd st
+told-stopped glyph i n lengths joined a rules x (Told j w) h r g v st =
     ap (λ (m : ℕ). refused (stopNumber w) (atGlyph m (stopValues w))) (st .0)
-    ∙ first-refused glyph i n h r (stopNumber w) (stopValues w) (g ∙ verdict-refused x (stopNumber w) (stopValues w) (sym (st .1) ∙ v))
+    ∙ first-refused glyph i n h r (stopNumber w) (stopValues w) (g ∙ verdict-refused rules x (stopNumber w) (stopValues w) (sym (st .1) ∙ v))

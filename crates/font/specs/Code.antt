@@ -7,7 +7,7 @@ use Rattle.number.specs.Answer.{Answer, accepted, refused, atGlyph, mapped, Out
 use Rattle.index.specs.Index.{dataStart, part}
 use Rattle.index_writing.specs.Writing.{total, sizeFor, offsets, reachOf}
 use Rattle.index_writing.specs.Code.{laid}
-use Rattle.reading.specs.Rules.{rulesOf}
+use Rattle.reading.specs.Rules.{Rules, rulesOf}
 use Rattle.reading.specs.Reading.{Run, original}
 use Rattle.reading.specs.Answers.{Flattening, verdict, stopNumber, stopValues}
 use Rattle.reading.specs.declared.Profile.{Profile}
@@ -18,7 +18,7 @@ use Rattle.font.specs.declared.first.Survey.the-variants.{Flat, Refused}
 -- ---- the glyphs of a font, and what each gives
 
 abbrev pub stringIn : Profile → List ℕ → List ℕ → ℕ → List ℕ → Answer (List ℕ)
-stringIn profile globals locals budget cs = flatIn (original (rulesOf profile) cs globals locals budget)
+stringIn profile globals locals budget cs = flatIn (rulesOf profile) (original (rulesOf profile) cs globals locals budget)
 
 abbrev pub glyphsOf : Profile → List ℕ → List ℕ → List ℕ → ℕ → ℕ → Answer (List ℕ)
 glyphsOf profile charstrings globals locals budget i = stringIn profile globals locals budget (part 2 charstrings i)
@@ -101,10 +101,10 @@ Reached sum room r = (r ≤ room) × (sum ≤ room → r ≡ sum)
 abbrev pub Noted : ℕ → ℕ → ℕ → ℕ → List ℕ → List ℕ → Type 0
 Noted i n sum room old new = sum ≤ room → i < length old → new ≡ set old i n
 
--- the refusal of a run
+-- the refusal of a run by the rules
 abbrev pub OfRun : Answer Flattening → Type 0
 OfRun (accepted x) = ⊥
-OfRun (refused k v) = (r : Run) × (refused k v ≡ verdict r)
+OfRun (refused k v) = (rules : Rules) × (r : Run) × (refused k v ≡ verdict rules r)
 
 -- told of glyph i
 abbrev pub StoppedAt : ℕ → Answer Flattening → Survey → Type 0

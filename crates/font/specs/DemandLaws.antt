@@ -19,11 +19,12 @@ use Rattle.reading.specs.Flat.{flat, straight}
 use Rattle.reading.specs.Reading.{Shown, struck, Run, original}
 use Rattle.reading.specs.Answers.{flattening}
 use Rattle.reading.specs.Masks.{StemsFirst, ByNote, CleanMasks}
-use Rattle.reading.specs.Demands.{empty, SameGlyph, reported}
+use Rattle.reading.specs.Demands.{EndcharLast, empty, SameGlyph, reported}
+use Rattle.reading.specs.AnswerLaws.{AcceptedBy, came-to-end}
 use Rattle.reading.specs.BudgetLaws.{tokens-budget}
 use Rattle.reading.specs.StraightLaws.{Just, struck-shown}
 use Rattle.reading.specs.SameGlyphLaws.{empty-formed, part-bytes, lists-bytes, items-tokens, just-again, reported-is}
-use Rattle.reading.specs.DemandLaws.{demand-three, masks-by-note, masks-clean}
+use Rattle.reading.specs.DemandLaws.{demand-three, masks-by-note, masks-clean, ends-in-endchar}
 use Rattle.font.specs.Font.{flatIn, allFrom, lengthsOf, joinedOf, indexed, ifFormed, fontBy, flatFont, flattenFont}
 use Rattle.font.specs.Demands.{Alone, SameEntry, SameFont, FontDemand, IsFormed}
 use Rattle.font.specs.WholeLaws.{let-in}
@@ -50,7 +51,7 @@ pub record Font (rules : Rules) (charstrings globals locals : List ℕ) (budget 
   pub glyphs : ℕ
   pub formed : formation (rules .width) charstrings ≡ accepted glyphs
   pub strings : List (List ℕ)
-  pub all : allFrom (λ i. flatIn (original rules (part (rules .width) charstrings i) globals locals budget)) 0 glyphs ≡ accepted strings
+  pub all : allFrom (λ i. flatIn rules (original rules (part (rules .width) charstrings i) globals locals budget)) 0 glyphs ≡ accepted strings
   pub index : indexOf (rules .width) (lengthsOf strings) (joinedOf strings) ≡ accepted b
 
 indexed-accepted : (w : ℕ) (x : Answer (List (List ℕ))) (b : List ℕ) → indexed w x ≡ accepted b
@@ -67,7 +68,7 @@ module _ (rules : Rules) (charstrings globals locals : List ℕ) (budget : ℕ) 
   run cs = original rules cs globals locals budget
 
   abbrev glyph : ℕ → Answer (List ℕ)
-  glyph i = flatIn (run (part w charstrings i))
+  glyph i = flatIn rules (run (part w charstrings i))
 
   pub is-font : flatFont rules charstrings globals locals budget ≡ accepted b → Font rules charstrings globals locals budget b
   unfolding flatFont fontBy
@@ -110,11 +111,11 @@ module _ (rules : Rules) (charstrings globals locals : List ℕ) (budget : ℕ) 
       abbrev f : List ℕ
       f = getD (font .strings) i []
 
-      flat-is : flatIn (run cs) ≡ accepted f
+      flat-is : flatIn rules (run cs) ≡ accepted f
       flat-is = ap glyph (sym (zero-add i)) ∙ of-each .is i h
 
-      gave-it : Gave (run cs) f
-      gave-it = gave (run cs) f flat-is
+      gave-it : Gave rules (run cs) f
+      gave-it = gave rules (run cs) f flat-is
 
       stands : (rest : List ℕ) → part w (b ++ rest) i ≡ f
       stands rest = let many = of-each .many in holds .entry rest i (omega arith)
@@ -144,6 +145,8 @@ module _ (rules : Rules) (charstrings globals locals : List ℕ) (budget : ℕ) 
                   (masks-by-note rules cs globals locals budget room (alone-is .x) cs-bytes g l answer-is);
               clean = λ c. subst (λ (y : List ℕ). CleanMasks (straight rules y .items)) reported-here
                   (masks-clean rules cs globals locals budget room (alone-is .x) cs-bytes g l answer-is c);
+              finished = λ c. subst (λ (y : List ℕ). EndcharLast rules (straight rules y .items)) reported-here
+                  (ends-in-endchar rules cs globals locals budget room (alone-is .x) cs-bytes g l answer-is c);
               same = subst (SameGlyph rules cs globals locals budget (alone-is .x)) reported-here
                   (demand-three rules cs globals locals budget room (alone-is .x) cs-bytes g l answer-is);
             }
@@ -152,33 +155,33 @@ module _ (rules : Rules) (charstrings globals locals : List ℕ) (budget : ℕ) 
         font-entry rest = subst (SameEntry rules cs globals locals budget) (sym (stands rest)) same-entry
 
         -- read again, with any lists, it gives the same string
-        same-string : (globals′ locals′ : List ℕ) → flatIn (original rules f globals′ locals′ budget) ≡ accepted f
+        same-string : (globals′ locals′ : List ℕ) → flatIn rules (original rules f globals′ locals′ budget) ≡ accepted f
         same-string globals′ locals′ =
             let lists = listsOf w globals locals in
             let entries = lists-bytes w globals locals g l in
-            let a = gave-it .came-to-end in
+            let a = came-to-end rules (run cs .how) (gave-it .accepted-by) in
             let items = struck (run cs .state .shown) in
             let enough = items-tokens rules lists budget cs entries cs-bytes a in
             let most = tokens-budget rules lists budget cs in
             let other = listsOf w globals′ locals′ in
-            let just : Just items (original rules f globals′ locals′ budget) =
-            subst (λ (y : List ℕ). Just items (original rules y globals′ locals′ budget)) (gave-it .is)
+            let just : Just (run cs .how) items (original rules f globals′ locals′ budget) =
+            subst (λ (y : List ℕ). Just (run cs .how) items (original rules y globals′ locals′ budget)) (gave-it .is)
             (just-again rules lists budget cs entries cs-bytes a other budget (omega arith)) in
-            flat-accepted (original rules f globals′ locals′ budget) (just .accepted)
+            flat-accepted rules (original rules f globals′ locals′ budget) (subst (AcceptedBy rules) (sym (just .how)) (gave-it .accepted-by))
             ∙ ap accepted (ap (λ (s : List Shown). flat (struck s)) (just .shown) ∙ ap flat (struck-shown items) ∙ gave-it .is)
 
     -- ---- again
 
     module _ (bytes : Bytes charstrings) (g : Bytes globals) (l : Bytes locals) where
       glyphs-again : (globals′ locals′ : List ℕ)
-          → allFrom (λ i. flatIn (original rules (part w b i) globals′ locals′ budget)) 0 (font .glyphs) ≡ accepted (font .strings)
+          → allFrom (λ i. flatIn rules (original rules (part w b i) globals′ locals′ budget)) 0 (font .glyphs) ≡ accepted (font .strings)
       glyphs-again globals′ locals′ = all-alike glyph _ 0 (font .glyphs) one ∙ font .all
         where
-          one : (i : ℕ) → i < 0 + font .glyphs → flatIn (original rules (part w b i) globals′ locals′ budget) ≡ glyph i
+          one : (i : ℕ) → i < 0 + font .glyphs → flatIn rules (original rules (part w b i) globals′ locals′ budget) ≡ glyph i
           one i h =
               let k : i < font .glyphs = omega arith in
               let entry-is = ap (λ (y : List ℕ). part w y i) (sym (append-nil b)) ∙ stands i k [] in
-              ap (λ (y : List ℕ). flatIn (original rules y globals′ locals′ budget)) entry-is
+              ap (λ (y : List ℕ). flatIn rules (original rules y globals′ locals′ budget)) entry-is
               ∙ same-string i k bytes g l globals′ locals′ ∙ sym (flat-is i k)
 
       -- flattened again under the same budget, with any two lists that are well formed, it is itself

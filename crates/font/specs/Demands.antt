@@ -13,7 +13,7 @@ use Rattle.reading.specs.Tokens.{Bytes}
 use Rattle.reading.specs.Flat.{straight}
 use Rattle.reading.specs.Answers.{Flattening, flattening}
 use Rattle.reading.specs.Masks.{StemsFirst, ByNote, CleanMasks}
-use Rattle.reading.specs.Demands.{empty, SameGlyph, RunRefusal}
+use Rattle.reading.specs.Demands.{EndcharLast, empty, SameGlyph, OwnRefusal}
 use Rattle.font.specs.Font.{lengthsOf, flattenFont}
 
 -- ---- glyph by glyph
@@ -32,6 +32,8 @@ pub record SameEntry (rules : Rules) (cs globals locals : List ℕ) (budget : �
   pub masks : StemsFirst rules (straight rules f .items) → ByNote rules (straight rules f .items)
   -- By clean rules operands wait in f at no mask behind one with bytes.
   pub clean : rules .clean ≡ true → CleanMasks (straight rules f .items)
+  -- By rules that want it f ends in endchar, and has no other.
+  pub finished : rules .finished ≡ true → EndcharLast rules (straight rules f .items)
   -- Demand 3: f is the same glyph.
   pub same : SameGlyph rules cs globals locals budget (one .x) f
 
@@ -73,7 +75,7 @@ pub data Why (rules : Rules) (charstrings globals locals : List ℕ) (budget : �
   bad-charstrings : (k : ℕ) (v : Values) → IsFormed rules globals → IsFormed rules locals → formation (rules .width) charstrings ≡ refused k v
       → Why rules charstrings globals locals budget out 26 (because k v)
   -- Glyph i alone is refused so, whatever the room, and every glyph before it is accepted.
-  bad-glyph : (glyphs i k : ℕ) (v : Values) → formation (rules .width) charstrings ≡ accepted glyphs → i < glyphs → RunRefusal k
+  bad-glyph : (glyphs i k : ℕ) (v : Values) → formation (rules .width) charstrings ≡ accepted glyphs → i < glyphs → OwnRefusal rules k
       → ((room : List ℕ) → flattening rules (part (rules .width) charstrings i) globals locals budget room ≡ leaving (refused k v) room)
       → ((j : ℕ) → j < i → (f : List ℕ) × Alone rules (part (rules .width) charstrings j) globals locals budget f)
       → Why rules charstrings globals locals budget out k (atGlyph i v)

@@ -9,8 +9,8 @@ use lib.Dec.{leb, ltb, eqb}
 use lib.ListN.{length, getD, take, drop}
 use lib.Seq.{take-at, drop-append-add}
 use borrow.Author.Tests.{ltb-false, leb-false, eqb-true}
-use Rattle.number.specs.Answer.{Values, Answer, accepted, refused, alone, mapped, leaving, Ready, into}
-use Rattle.number.specs.AnswerLaws.{refused-accepted, accepted-same, into-fits}
+use Rattle.number.specs.Answer.{Values, Answer, accepted, refused, alone, leaving, Ready, into}
+use Rattle.number.specs.AnswerLaws.{refused-accepted, accepted-same, mapped-refused, into-fits}
 use Rattle.index.specs.Index.{extent, part}
 use Rattle.index.specs.IndexLaws.{has}
 use Rattle.index.specs.Formed.{formation}
@@ -18,10 +18,10 @@ use Rattle.index_writing.specs.Writing.{total, element, indexBytes, indexOf}
 use Rattle.index_writing.specs.Code.{Writable}
 use Rattle.index_writing.specs.RoundTripLaws.{read-written, part-written, formed-written}
 use Rattle.reading.specs.Rules.{Rules}
-use Rattle.reading.specs.Reading.{Ending, back, ended, stopped, Accepted, Run, original}
-use Rattle.reading.specs.Answers.{Flattening, flatOf, flatReady, readyBy, outcome, flattening}
-use Rattle.reading.specs.AnswerLaws.{gate-open}
-use Rattle.font.specs.Font.{flatIn, decided, allFrom, lengthsOf, joinedOf}
+use Rattle.reading.specs.Reading.{Run, original}
+use Rattle.reading.specs.Answers.{Flattening, flatOf, flatReady, judged, outcome, flattening}
+use Rattle.reading.specs.AnswerLaws.{AcceptedBy, Judged, takes, turns-down, judged-so, judged-accepted, gate-open}
+use Rattle.font.specs.Font.{bytesIn, flatIn, decided, allFrom, lengthsOf, joinedOf}
 use Rattle.font.specs.Demands.{Alone, IsFormed}
 
 -- ---- the glyphs in order
@@ -117,53 +117,36 @@ module _ (w : ℕ) (fs : List (List ℕ)) (b : List ℕ) where
 
 -- ---- a run, and its flat string
 
--- A run that gave the string f.
-pub record Gave (r : Run) (f : List ℕ) : Type 0 where
-  pub came-to-end : Accepted (r .how)
+-- A run that gave the string f by the rules.
+pub record Gave (rules : Rules) (r : Run) (f : List ℕ) : Type 0 where
+  pub accepted-by : AcceptedBy rules (r .how)
   pub is : flatOf r ≡ f
 
-abbrev bytesIn : Answer (Ready Flattening) → Answer (List ℕ)
-bytesIn = mapped (λ (x : Ready Flattening). x .bytes)
-
-module _ (r : Run) where
-  ready-flat : Accepted (r .how) → readyBy r (r .how) ≡ accepted (flatReady r)
-  unfolding readyBy
-  ready-flat a = go (r .how) a
-    where
-      go : (e : Ending) → Accepted e → readyBy r e ≡ accepted (flatReady r)
-      go back a = refl
-      go ended a = refl
-      go (stopped k) a = absurd a
-
-  pub flat-accepted : Accepted (r .how) → flatIn r ≡ accepted (flatOf r)
+module _ (rules : Rules) (r : Run) where
+  pub flat-accepted : AcceptedBy rules (r .how) → flatIn rules r ≡ accepted (flatOf r)
   unfolding flatIn
-  flat-accepted a = ap bytesIn (ready-flat a)
+  flat-accepted a = ap bytesIn (judged-accepted rules r a)
 
-  pub gave : (f : List ℕ) → flatIn r ≡ accepted f → Gave r f
-  unfolding flatIn readyBy
-  gave f e = go (r .how) refl e
+  pub gave : (f : List ℕ) → flatIn rules r ≡ accepted f → Gave rules r f
+  unfolding flatIn
+  gave f e = go (judged rules r) (judged-so rules r) e
     where
-      go : (h : Ending) → r .how ≡ h → bytesIn (readyBy r h) ≡ accepted f → Gave r f
-      go back h e = record { came-to-end = subst Accepted (sym h) tt; is = accepted-same e }
-      go ended h e = record { came-to-end = subst Accepted (sym h) tt; is = accepted-same e }
-      go (stopped k) h e = refused-accepted e
+      go : (y : Answer (Ready Flattening)) → Judged rules r y → bytesIn y ≡ accepted f → Gave rules r f
+      go y (takes a) e = record { accepted-by = a; is = accepted-same e }
+      go y (turns-down k b) e = refused-accepted e
 
   -- it goes into any room that takes it
-  gave-outcome : (f : List ℕ) → Gave r f → (room : List ℕ) → length (flatOf r) ≤ length room
-      → outcome room r ≡ leaving (accepted (flatReady r .told)) (f ++ drop (length (flatOf r)) room)
+  gave-outcome : (f : List ℕ) → Gave rules r f → (room : List ℕ) → length (flatOf r) ≤ length room
+      → outcome rules room r ≡ leaving (accepted (flatReady r .told)) (f ++ drop (length (flatOf r)) room)
   unfolding outcome
   gave-outcome f g room h =
-      ap (into room) (ready-flat (g .came-to-end)) ∙ into-fits room (flatReady r) h
+      ap (into room) (judged-accepted rules r (g .accepted-by)) ∙ into-fits room (flatReady r) h
       ∙ ap (λ (x : List ℕ). leaving (accepted (flatReady r .told)) (x ++ drop (length (flatOf r)) room)) (g .is)
 
   -- and a refusal is the same in any room
-  refused-outcome : (k : ℕ) (v : Values) → flatIn r ≡ refused k v → (room : List ℕ) → outcome room r ≡ leaving (refused k v) room
+  refused-outcome : (k : ℕ) (v : Values) → flatIn rules r ≡ refused k v → (room : List ℕ) → outcome rules room r ≡ leaving (refused k v) room
   unfolding outcome flatIn into
-  refused-outcome k v e room = go (readyBy r (r .how)) e
-    where
-      go : (x : Answer (Ready Flattening)) → bytesIn x ≡ refused k v → into room x ≡ leaving (refused k v) room
-      go (accepted x) e = refused-accepted (sym e)
-      go (refused j u) e = let number : j ≡ k = cc in let values : u ≡ v = cc in rw (number, values)
+  refused-outcome k v e room = ap (into room) (mapped-refused (λ (x : Ready Flattening). x .bytes) (judged rules r) k v e)
 
 -- ---- flattening it alone, with two lists that are well formed
 
@@ -171,14 +154,14 @@ module _ (rules : Rules) (globals locals : List ℕ) (g : IsFormed rules globals
   abbrev run : Run
   run = original rules cs globals locals budget
 
-  run-decides : (room : List ℕ) → flattening rules cs globals locals budget room ≡ outcome room run
+  run-decides : (room : List ℕ) → flattening rules cs globals locals budget room ≡ outcome rules room run
   unfolding flattening
   run-decides room =
       gate-open 1 room (formation (rules .width) globals) (g .0) (g .1) _ ∙ gate-open 2 room (formation (rules .width) locals) (l .0) (l .1) _
 
-  pub alone-gives : (f : List ℕ) → flatIn run ≡ accepted f → Alone rules cs globals locals budget f
-  alone-gives f e = record { x = flatReady run .told; gives = λ room h. run-decides room ∙ gave-outcome run f (gave run f e) room h }
+  pub alone-gives : (f : List ℕ) → flatIn rules run ≡ accepted f → Alone rules cs globals locals budget f
+  alone-gives f e = record { x = flatReady run .told; gives = λ room h. run-decides room ∙ gave-outcome rules run f (gave rules run f e) room h }
 
-  pub alone-refused : (k : ℕ) (v : Values) → flatIn run ≡ refused k v → (room : List ℕ)
+  pub alone-refused : (k : ℕ) (v : Values) → flatIn rules run ≡ refused k v → (room : List ℕ)
       → flattening rules cs globals locals budget room ≡ leaving (refused k v) room
-  alone-refused k v e room = run-decides room ∙ refused-outcome run k v e room
+  alone-refused k v e room = run-decides room ∙ refused-outcome rules run k v e room

@@ -1,4 +1,4 @@
--- Worked examples of a whole font (RULES, "A whole font"), proved as one list by the definitions. Assumes nothing.
+-- Worked examples of a whole font (RULES, "A whole font"), proved by the definitions. Assumes nothing.
 use mathlib.Core.Path.{_≡_, refl}
 use mathlib.Core.List.{List, [], _∷_, _++_}
 use Prim.Native.Nat.{ℕ}
@@ -18,7 +18,7 @@ use Rattle.reading.specs.Tokens.{escapedAt, operatorAt, cutBy, cut}
 use Rattle.reading.specs.Reading.{struck, tokensBy, endsInOperand, admitted, onNumber, onStem, onMask, onEnd, onEntry}
 use Rattle.reading.specs.Reading.{onIndex, onCall, onOperator, onCut, onToken, resume, after, tokensOf, read, reading}
 use Rattle.reading.specs.Flat.{spelled, flat}
-use Rattle.reading.specs.Answers.{readyBy}
+use Rattle.reading.specs.Answers.{readyBy, judged}
 use Rattle.font.specs.Font.{flatIn, decided, allFrom, lengthsOf, joinedOf, indexed, ifFormed, fontBy, flatFont, flattenFont}
 
 -- what a row expects: an INDEX, or a refusal and what comes with it
@@ -123,15 +123,22 @@ rows =
     ∷ withLists descending none (0x00 ∷ 0x01 ∷ 0x05 ∷ []) (refuses 2 (because 21 alone))
     ∷ withLists descending none none (refuses 26 (because 41 (atEntry 1)))
     ∷ withLists [] none none (refuses 26 (because 20 alone))
-    -- 15 of a glyph comes with its number alone, in strict
-    ∷ record { charstrings = waiting; globals = none; locals = none; rules = strict; budget = 1000; room = 24; expected = refuses 15 (atGlyph 1 alone) }
-    ∷ record { charstrings = waiting; globals = none; locals = none; rules = plain; budget = 1000; room = 24; expected = gives waiting }
     -- a glyph's own before 13
     ∷ record { charstrings = three; globals = none; locals = none; rules = plain; budget = 1000; room = 0; expected = refuses 6 (atGlyph 1 (atToken 1)) }
     ∷ []
 
-pub rows-hold : All rows
-unfolding expectedBy into readyBy flatIn decided allFrom lengthsOf joinedOf indexed ifFormed fontBy flatFont flattenFont
+abbrev pub rowsInStrict : List Row
+rowsInStrict =
+    -- 15 of a glyph comes with its number alone, in strict
+    record { charstrings = waiting; globals = none; locals = none; rules = strict; budget = 1000; room = 24; expected = refuses 15 (atGlyph 1 alone) }
+    ∷ record { charstrings = waiting; globals = none; locals = none; rules = plain; budget = 1000; room = 24; expected = gives waiting }
+    -- and so does 16, also before 13
+    ∷ record { charstrings = two; globals = none; locals = L; rules = strict; budget = 1000; room = 0; expected = refuses 16 (atGlyph 1 alone) }
+    ∷ record { charstrings = short; globals = none; locals = none; rules = strict; budget = 1000; room = 13; expected = gives short }
+    ∷ []
+
+pub rows-hold : All rows × All rowsInStrict
+unfolding expectedBy into readyBy judged flatIn decided allFrom lengthsOf joinedOf indexed ifFormed fontBy flatFont flattenFont
     total sizeFor offsets behindCount indexBytes indexOf
     beAt bytesOf signed unsigned integerRows rowsOf rowOf valueBy numberBy readBy formBy spell bytes bytesBy spelling
     bitLength counts callIndex entryOf biased callee
@@ -139,5 +146,7 @@ unfolding expectedBy into readyBy flatIn decided allFrom lengthsOf joinedOf inde
     byteKind escapedKind kindBy countIn entryBy subrsOf listsOf escapedAt operatorAt cutBy cut
     struck tokensBy endsInOperand admitted onNumber onStem onMask onEnd onEntry onIndex onCall onOperator onCut onToken
     resume after tokensOf read reading spelled flat
-rows-hold =
-    (refl, (refl, (refl, (refl, (refl, (refl, (refl, (refl, (refl, (refl, (refl, (refl, (refl, (refl, (refl, (refl, (refl, (refl, (refl, tt)))))))))))))))))))
+rows-hold = (
+  (refl, (refl, (refl, (refl, (refl, (refl, (refl, (refl, (refl, (refl, (refl, (refl, (refl, (refl, (refl, (refl, (refl, tt))))))))))))))))),
+  (refl, (refl, (refl, (refl, tt)))),
+)

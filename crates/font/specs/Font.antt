@@ -9,15 +9,18 @@ use Rattle.index.specs.Formed.{formation, reasonOf, reasonAt}
 use Rattle.index_writing.specs.Writing.{indexOf}
 use Rattle.reading.specs.Rules.{Rules}
 use Rattle.reading.specs.Reading.{Run, original}
-use Rattle.reading.specs.Answers.{Flattening, readyBy, stopNumber, stopValues}
+use Rattle.reading.specs.Answers.{Flattening, judged, stopNumber, stopValues}
 use Rattle.font.specs.declared.FontFlattened.{FontFlattened}
 use Rattle.font.specs.declared.FontFlattened.the-variants.{Written, BadGlobals, BadLocals, BadCharstrings, Refused, TooLong, NoRoom}
 
 -- ---- the glyphs, in order
 
--- what a run gives: the flat string, or its refusal
-unfoldable pub flatIn : Run → Answer (List ℕ)
-flatIn r = mapped (λ (x : Ready Flattening). x .bytes) (readyBy r (r .how))
+abbrev pub bytesIn : Answer (Ready Flattening) → Answer (List ℕ)
+bytesIn = mapped (λ (x : Ready Flattening). x .bytes)
+
+-- what a run gives by the rules: the flat string, or its refusal
+unfoldable pub flatIn : Rules → Run → Answer (List ℕ)
+flatIn rules r = bytesIn (judged rules r)
 
 -- the first glyph that is refused decides, and its number comes with its refusal
 unfoldable pub decided : ℕ → Answer (List ℕ) → Answer (List (List ℕ)) → Answer (List (List ℕ))
@@ -50,17 +53,17 @@ unfoldable pub ifFormed : ℕ → Answer ℕ → (ℕ → Answer (List ℕ)) →
 ifFormed k (accepted n) then = then n
 ifFormed k (refused j v) then = refused k (because j v)
 
--- of lists whose counts have w bytes; run is the reading of a charstring with both lists
-unfoldable pub fontBy : ℕ → (List ℕ → Run) → List ℕ → List ℕ → List ℕ → Answer (List ℕ)
-fontBy w run charstrings globals locals =
+-- of lists whose counts have w bytes; `flat` is what a charstring with both lists gives
+unfoldable pub fontBy : ℕ → (List ℕ → Answer (List ℕ)) → List ℕ → List ℕ → List ℕ → Answer (List ℕ)
+fontBy w flat charstrings globals locals =
     ifFormed 1 (formation w globals) (λ _.
     ifFormed 2 (formation w locals) (λ _.
     ifFormed 26 (formation w charstrings) (λ n.
-    indexed w (allFrom (λ i. flatIn (run (part w charstrings i))) 0 n))))
+    indexed w (allFrom (λ i. flat (part w charstrings i)) 0 n))))
 
 unfoldable pub flatFont : Rules → List ℕ → List ℕ → List ℕ → ℕ → Answer (List ℕ)
 flatFont rules charstrings globals locals budget =
-    fontBy (rules .width) (λ cs. original rules cs globals locals budget) charstrings globals locals
+    fontBy (rules .width) (λ cs. flatIn rules (original rules cs globals locals budget)) charstrings globals locals
 
 -- what it answers and leaves: the bytes come first and the rest stays, or 13 with the length that is needed
 unfoldable pub flattenFont : Rules → List ℕ → List ℕ → List ℕ → ℕ → List ℕ → Outcome (Answer ℕ)

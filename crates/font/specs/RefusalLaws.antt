@@ -9,7 +9,7 @@ use lib.Dec.{leb, ltb, eqb}
 use lib.ListN.{length, getD, drop}
 use borrow.Author.Tests.{ltb-true, ltb-false, leb-true, leb-false, eqb-false}
 use Rattle.number.specs.Answer.{Values, alone, needing, atGlyph, Answer, accepted, refused, mapped, Outcome, leaving, Ready, sized, into}
-use Rattle.number.specs.AnswerLaws.{refused-accepted, answer-as, into-fits}
+use Rattle.number.specs.AnswerLaws.{refused-accepted, mapped-refused, answer-as, into-fits}
 use Rattle.number.specs.BigEndianLaws.{be-lt}
 use Rattle.index.specs.Index.{part}
 use Rattle.index.specs.Formed.{formation}
@@ -18,27 +18,15 @@ use Rattle.index_writing.specs.Writing.{total, indexBytes, indexOf}
 use Rattle.reading.specs.Rules.{Rules}
 use Rattle.reading.specs.Lists.{listsOf}
 use Rattle.reading.specs.Tokens.{Bytes}
-use Rattle.reading.specs.Reading.{Ending, back, ended, stopped, Run, original}
-use Rattle.reading.specs.Answers.{Flattening, readyBy}
-use Rattle.reading.specs.Demands.{RunRefusal}
+use Rattle.reading.specs.Reading.{original}
+use Rattle.reading.specs.Answers.{Flattening, judged}
 use Rattle.reading.specs.DemandLaws.{never-eight as eight-alone}
 use Rattle.reading.specs.SameGlyphLaws.{part-bytes}
-use Rattle.reading.specs.StopLaws.{EndsSo, run-stops, refusal-most}
+use Rattle.reading.specs.StopLaws.{judged-refused, refusal-within}
 use Rattle.font.specs.Font.{flatIn, decided, allFrom, lengthsOf, joinedOf, indexed, ifFormed, fontBy, flatFont, flattenFont}
 use Rattle.font.specs.Demands.{Why, bad-globals, bad-locals, bad-charstrings, bad-glyph, too-long, no-room, IsFormed, RefusalDemand, NeverEight}
 use Rattle.font.specs.FontLaws.{joined-total}
 use Rattle.font.specs.EntryLaws.{Each, each, count-lengths, alone-gives, alone-refused}
-
--- ---- a run's refusal
-
-flat-refused : (r : Run) → EndsSo (r .how) → (k : ℕ) (v : Values) → flatIn r ≡ refused k v → RunRefusal k
-unfolding flatIn readyBy
-flat-refused r so k v e = go-by (r .how) so e
-  where
-    go-by : (h : Ending) → EndsSo h → mapped (λ (x : Ready Flattening). x .bytes) (readyBy r h) ≡ refused k v → RunRefusal k
-    go-by back so e = refused-accepted (sym e)
-    go-by ended so e = refused-accepted (sym e)
-    go-by (stopped n) so e = let same : n ≡ k = cc in subst RunRefusal same so
 
 -- ---- the first glyph that is refused
 
@@ -78,7 +66,7 @@ module _ (rules : Rules) (charstrings globals locals : List ℕ) (budget : ℕ) 
   w = rules .width
 
   abbrev glyph : ℕ → Answer (List ℕ)
-  glyph i = flatIn (original rules (part w charstrings i) globals locals budget)
+  glyph i = flatIn rules (original rules (part w charstrings i) globals locals budget)
 
   -- of a refusal
   abbrev WhyIn : {A : Type 0} → Answer A → Type 0
@@ -87,10 +75,11 @@ module _ (rules : Rules) (charstrings globals locals : List ℕ) (budget : ℕ) 
 
   module _ (g : IsFormed rules globals) (l : IsFormed rules locals) (n : ℕ) (c : formation w charstrings ≡ accepted n) where
     by-first : (k : ℕ) (v : Values) → First glyph 0 n k v → Why rules charstrings globals locals budget out k v
+    unfolding flatIn
     by-first k₁ v₁ (first i k u h e before) =
         let r = original rules (part w charstrings i) globals locals budget in
-        let stops = run-stops rules (listsOf w globals locals) budget (part w charstrings i) in
-        bad-glyph n i k u c (omega arith) (flat-refused r stops k u e)
+        let judged-so = mapped-refused (λ (x : Ready Flattening). x .bytes) (judged rules r) k u e in
+        bad-glyph n i k u c (omega arith) (judged-refused rules (listsOf w globals locals) budget (part w charstrings i) k u judged-so)
         (alone-refused rules globals locals g l budget (part w charstrings i) k u e)
         (λ j b. let x = before j (omega arith) b in (x .0, alone-gives rules globals locals g l budget (part w charstrings j) (x .0) (x .1)))
 
@@ -184,7 +173,7 @@ why-others rules charstrings globals locals budget out k₁ v₁ (bad-globals k 
 why-others rules charstrings globals locals budget out k₁ v₁ (bad-locals k v g l) = (λ e. omega arith, λ e. omega arith)
 why-others rules charstrings globals locals budget out k₁ v₁ (bad-charstrings k v g l c) = (λ e. omega arith, λ e. omega arith)
 why-others rules charstrings globals locals budget out k₁ v₁ (bad-glyph n i k v c h o r b) =
-    let most = refusal-most k o in (λ e. omega arith, λ e. omega arith)
+    let within = refusal-within rules k o in (λ e. omega arith, λ e. omega arith)
 why-others rules charstrings globals locals budget out k₁ v₁ (too-long fs c a h) = (λ e. omega arith, λ e. omega arith)
 why-others rules charstrings globals locals budget out k₁ v₁ (no-room f a h) = (λ e. omega arith, λ e. omega arith)
 

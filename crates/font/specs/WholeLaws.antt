@@ -20,11 +20,10 @@ use Rattle.index_writing.specs.WritingLaws.{length-offsets, reach-none, index-n
 use Rattle.index_writing.specs.LaidLaws.{laid-put, laid-first}
 use Rattle.reading.specs.Rules.{rulesOf}
 use Rattle.reading.specs.Tokens.{Bytes}
-use Rattle.reading.specs.Reading.{original}
 use Rattle.reading.specs.declared.Profile.{Profile}
 use Rattle.reading.specs.declared.Profile.the-variants.{Plain, Strict}
 use Rattle.font.specs.Font.{allFrom, lengthsOf, joinedOf, indexed, ifFormed, fontBy, flatFont, flattenFont}
-use Rattle.font.specs.Code.{strings, before, allOf, Measured, Laid, filled}
+use Rattle.font.specs.Code.{stringIn, strings, before, allOf, Measured, Laid, filled}
 use Rattle.font.specs.FontLaws.{length-strings, joined-total}
 use Rattle.font.specs.PassLaws.{all-written, strings-writable}
 
@@ -150,8 +149,8 @@ width-two Strict = refl
 
 -- of a profile, whose counts have two bytes
 pub font-two : (p : Profile) (charstrings globals locals : List ℕ) (budget : ℕ) (out : List ℕ)
-    → into out (mapped sized (fontBy 2 (λ cs. original (rulesOf p) cs globals locals budget) charstrings globals locals))
+    → into out (mapped sized (fontBy 2 (stringIn p globals locals budget) charstrings globals locals))
     ≡ flattenFont (rulesOf p) charstrings globals locals budget out
 unfolding flattenFont flatFont
 font-two p charstrings globals locals budget out =
-    ap (λ (w : ℕ). into out (mapped sized (fontBy w (λ cs. original (rulesOf p) cs globals locals budget) charstrings globals locals))) (sym (width-two p))
+    ap (λ (w : ℕ). into out (mapped sized (fontBy w (stringIn p globals locals budget) charstrings globals locals))) (sym (width-two p))

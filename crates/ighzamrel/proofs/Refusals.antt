@@ -8,11 +8,9 @@ use lib.Dec.{leb, lit<}
 use lib.ListN.{length, drop}
 use Rattle.number.specs.Answer.{Values, Answer, accepted, refused, Outcome, leaving, Ready, into}
 use Rattle.reading.specs.Rules.{Rules}
-use Rattle.reading.specs.Tokens.{number}
-use Rattle.reading.specs.Reading.{Ending, back, ended, stopped, Run, go}
 use Rattle.reading.specs.Reading.{original}
-use Rattle.reading.specs.StopLaws.{EndsSo, run-stops}
-use Rattle.reading.specs.Answers.{Flattening, readyBy, outcome, listGate, flattening}
+use Rattle.reading.specs.StopLaws.{judged-refused, refusal-within}
+use Rattle.reading.specs.Answers.{Flattening, judged, outcome, listGate, flattening}
 use Rattle.reading.specs.Tokens.{Bytes}
 use Rattle.font.specs.Font.{flattenFont}
 use Rattle.font.specs.Demands.{Why, bad-globals, bad-locals, bad-charstrings, bad-glyph, too-long, no-room}
@@ -31,11 +29,12 @@ either P false x y p q = q
 
 -- ---- of a flattening
 
-numbered-ready : (r : Run) (e : Ending) → EndsSo e → Numbered (readyBy r e)
-unfolding readyBy
-numbered-ready r back h = tt
-numbered-ready r ended h = tt
-numbered-ready r (stopped k) h = omega (arith, h .0)
+numbered-judged : (rules : Rules) (cs globals locals : List ℕ) (budget : ℕ) → Numbered (judged rules (original rules cs globals locals budget))
+numbered-judged rules cs globals locals budget = go (judged rules (original rules cs globals locals budget)) refl
+  where
+    go : (y : Answer (Ready Flattening)) → judged rules (original rules cs globals locals budget) ≡ y → Numbered y
+    go (accepted x) e = tt
+    go (refused k v) e = omega (arith, refusal-within rules k (judged-refused rules _ budget cs k v e) .0)
 
 numbered-into : {A : Type 0} (out : List ℕ) (x : Answer (Ready A)) → Numbered x → Numbered (into out x .answer)
 unfolding into
@@ -54,9 +53,7 @@ pub numbered-flattening : (rules : Rules) (cs globals locals : List ℕ) (budget
     → Numbered (flattening rules cs globals locals budget out .answer)
 unfolding flattening outcome
 numbered-flattening rules cs globals locals budget out =
-    let r = original rules cs globals locals budget in
-    numbered-gate 1 out _ _ (lit< tt) (numbered-gate 2 out _ _ (lit< tt)
-    (numbered-into out _ (numbered-ready r (r .how) (run-stops rules _ budget cs))))
+    numbered-gate 1 out _ _ (lit< tt) (numbered-gate 2 out _ _ (lit< tt) (numbered-into out _ (numbered-judged rules cs globals locals budget)))
 
 -- where 0 is told, the answer is accepted, and the places are what it gives
 pub told-accepted : (a : Answer Flattening) (old p : FlatPlaces) → Numbered a → told 0 p ≡ tell flatPlaces flatPlacesOr a old
@@ -73,7 +70,7 @@ pub why-numbered : (rules : Rules) (charstrings globals locals : List ℕ) (budg
 why-numbered rules charstrings globals locals budget out k₁ v₁ (bad-globals k v e) = lit< tt
 why-numbered rules charstrings globals locals budget out k₁ v₁ (bad-locals k v g e) = lit< tt
 why-numbered rules charstrings globals locals budget out k₁ v₁ (bad-charstrings k v g l e) = lit< tt
-why-numbered rules charstrings globals locals budget out k₁ v₁ (bad-glyph n i k v f h r a b) = omega (arith, r .0)
+why-numbered rules charstrings globals locals budget out k₁ v₁ (bad-glyph n i k v f h r a b) = omega (arith, refusal-within rules k r .0)
 why-numbered rules charstrings globals locals budget out k₁ v₁ (too-long fs f a h) = lit< tt
 why-numbered rules charstrings globals locals budget out k₁ v₁ (no-room F f h) = lit< tt
 

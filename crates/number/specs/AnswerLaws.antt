@@ -7,13 +7,18 @@ use native.Mathlib.Omega.{arith}
 use lib.Dec.{leb}
 use lib.ListN.{length, drop}
 use borrow.Author.Tests.{le-leb, lt-leb, leb-true}
-use Rattle.number.specs.Answer.{Values, Answer, accepted, refused, Outcome, leaving, Ready, into}
+use Rattle.number.specs.Answer.{Values, Answer, accepted, refused, mapped, Outcome, leaving, Ready, into}
 
 pub refused-accepted : {A B : Type 0} {n : ℕ} {v : Values} {x : A} → refused n v ≡ accepted x → B
 refused-accepted e = let w : _≡_ {A = ℕ} 0 1 = cc in absurd (omega arith)
 
 pub accepted-same : {A : Type 0} {x y : A} → accepted x ≡ accepted y → x ≡ y
 accepted-same {A} {x} {y} e = cc
+
+-- mapping leaves a refusal as it is
+pub mapped-refused : {A B : Type 0} (f : A → B) (a : Answer A) (k : ℕ) (v : Values) → mapped f a ≡ refused k v → a ≡ refused k v
+mapped-refused f (accepted x) k v e = refused-accepted (sym e)
+mapped-refused f (refused n u) k v e = let number : n ≡ k = cc in let values : u ≡ v = cc in rw (number, values)
 
 pub answer-as : {A : Type 0} {x y : Outcome A} → x ≡ y → x .answer ≡ y .answer
 answer-as {A} e = ap (λ (o : Outcome A). o .answer) e

@@ -72,6 +72,7 @@ rules-back r =
       ends = ends-back (r .kind);
       exact = r .exact;
       clean = r .clean;
+      finished = r .finished;
       width = cond (eqb (r .width) 2) Two Four;
     }
 
@@ -85,6 +86,7 @@ rules-undo r =
       ends = ends-undo (r .ends) i;
       exact = r .exact;
       clean = r .clean;
+      finished = r .finished;
       width = width-undo (r .width) i;
     }
 

@@ -11,7 +11,7 @@ use Rattle.reading.specs.Reading.{Ending, back, ended, stopped, Run, str
 use Rattle.reading.specs.Flat.{flat}
 use Rattle.reading.specs.declared.Refusal.{Refusal}
 use Rattle.reading.specs.declared.Refusal.the-variants.{BudgetSpent, BytesLacking, TooManyOperands, UnknownOperator}
-use Rattle.reading.specs.declared.Refusal.the-variants.{NoIndex, IndexNotLast, NoEntry, TooDeep, TooManyHints, Composite, OperandsAtMask}
+use Rattle.reading.specs.declared.Refusal.the-variants.{NoIndex, IndexNotLast, NoEntry, TooDeep, TooManyHints, Composite, OperandsAtMask, NoEndchar}
 use Rattle.reading.specs.declared.Stopped.{Stopped}
 use Rattle.reading.specs.declared.Stopped.the-variants.{At, Alone}
 use Rattle.reading.specs.declared.Flattened.{Flattened}
@@ -32,23 +32,30 @@ flatReady r =
     let n = length (flatOf r) in
     record { bytes = flatOf r; told = record { size = n; tokens = tokens r }; short = needingAt n (tokens r) }
 
--- what comes with a run's refusal: the tokens with 3 to 12, and nothing with a later number
+-- what comes with a charstring's refusal: the tokens with 3 to 12, and nothing with a later number
 abbrev pub comesWith : ℕ → ℕ → Values
 comesWith k t = cond (leb k 12) (atToken t) alone
 
--- by how a run ended
-unfoldable pub readyBy : Run → Ending → Answer (Ready Flattening)
-readyBy r back = accepted (flatReady r)
-readyBy r ended = accepted (flatReady r)
-readyBy r (stopped k) = refused k (comesWith k (tokens r))
+-- by how a run ended: 16 where it came to its end without an endchar that the rules want
+unfoldable pub readyBy : Rules → Run → Ending → Answer (Ready Flattening)
+readyBy rules r back = cond (rules .finished) (refused 16 (comesWith 16 (tokens r))) (accepted (flatReady r))
+readyBy rules r ended = accepted (flatReady r)
+readyBy rules r (stopped k) = refused k (comesWith k (tokens r))
 
--- the verdict on a run, whatever the room
-unfoldable pub verdict : Run → Answer Flattening
-verdict r = mapped (λ (x : Ready Flattening). x .told) (readyBy r (r .how))
+-- and so the rules judge a run
+unfoldable pub judged : Rules → Run → Answer (Ready Flattening)
+judged rules r = readyBy rules r (r .how)
+
+abbrev pub toldIn : Answer (Ready Flattening) → Answer Flattening
+toldIn = mapped (λ (x : Ready Flattening). x .told)
+
+-- the verdict on it, whatever the room
+unfoldable pub verdict : Rules → Run → Answer Flattening
+verdict rules r = toldIn (judged rules r)
 
 -- and with room
-unfoldable pub outcome : List ℕ → Run → Outcome (Answer Flattening)
-outcome out r = into out (readyBy r (r .how))
+unfoldable pub outcome : Rules → List ℕ → Run → Outcome (Answer Flattening)
+outcome rules out r = into out (judged rules r)
 
 -- ---- flattening: both lists are looked at first
 
@@ -61,7 +68,7 @@ unfoldable pub flattening : Rules → List ℕ → List ℕ → List ℕ → ℕ
 flattening rules cs globals locals budget out =
     listGate 1 out (formation (rules .width) globals)
     (listGate 2 out (formation (rules .width) locals)
-    (outcome out (original rules cs globals locals budget)))
+    (outcome rules out (original rules cs globals locals budget)))
 
 -- ---- what the enums say
 
@@ -77,8 +84,9 @@ numberOf TooDeep = 10
 numberOf TooManyHints = 11
 numberOf Composite = 12
 numberOf OperandsAtMask = 15
+numberOf NoEndchar = 16
 
--- a run's refusal: its number, and what comes with it
+-- a charstring's refusal: its number, and what comes with it
 abbrev pub stopNumber : Stopped → ℕ
 stopNumber (At k t) = numberOf k
 stopNumber (Alone k) = numberOf k

@@ -77,9 +77,9 @@ module _ (rules : Rules) (clean : rules .clean ≡ true) where
   valid-clean f (mask-behind p m g c k w l n v) =
       ((λ h. sym (waits g v) ∙ none-wait (leftBy rules g) w (fixed g v h)), valid-clean g v)
 
-  pub whole-clean : (f : List Item) → Whole rules f → CleanMasks f
-  whole-clean f (open-ended g v) = valid-clean g v
-  whole-clean f (end-behind p g c k l v) = valid-clean g v
+  pub whole-clean : (e : Ending) (f : List Item) → Whole rules e f → CleanMasks f
+  whole-clean e f (open-ended g v) = valid-clean g v
+  whole-clean e f (end-behind p g c k l v) = valid-clean g v
 
   -- ---- a call
 

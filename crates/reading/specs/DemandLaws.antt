@@ -6,12 +6,14 @@ use Rattle.reading.specs.Rules.{plain, strict}
 use Rattle.reading.specs.Lists.{listsOf}
 use Rattle.reading.specs.Items.{Item}
 use Rattle.reading.specs.Masks.{StemsFirst, ByNote, CleanMasks}
-use Rattle.reading.specs.Demands.{SameGlyph, DemandThree, MasksByNote, MasksClean, NeverEight, WithinBudget, EnoughBudget, SmallBudget, StrictThenPlain}
+use Rattle.reading.specs.Demands.{EndcharLast, LastByte, SameGlyph, DemandThree, MasksByNote, MasksClean, EndsInEndchar, EndsIn14, NeverEight}
+use Rattle.reading.specs.Demands.{WithinBudget, EnoughBudget, SmallBudget, StrictThenPlain}
 use Rattle.reading.specs.AnswerLaws.{answer-within, answer-enough, answer-short, answer-looser, run-stopped}
 use Rattle.reading.specs.TighterLaws.{strict-tighter}
-use Rattle.reading.specs.SameGlyphLaws.{whole-items, reported-is, items-are, same-items, lists-bytes}
+use Rattle.reading.specs.SameGlyphLaws.{whole-items, ended-run, reported-is, items-are, same-items, lists-bytes}
 use Rattle.reading.specs.MaskLaws.{whole-note}
 use Rattle.reading.specs.CleanLaws.{whole-clean, run-not-eight}
+use Rattle.reading.specs.EndcharLaws.{whole-ends, whole-last}
 
 pub demand-three : DemandThree
 demand-three rules cs globals locals budget out x bytes g l a =
@@ -21,17 +23,29 @@ demand-three rules cs globals locals budget out x bytes g l a =
 pub masks-by-note : MasksByNote
 masks-by-note rules cs globals locals budget out x bytes g l a =
     subst (λ (f : List Item). StemsFirst rules f → ByNote rules f) (sym (items-are rules cs globals locals budget out x bytes g l a))
-    (whole-note rules _ (whole-items rules cs globals locals budget out x bytes g l a))
+    (whole-note rules _ _ (whole-items rules cs globals locals budget out x bytes g l a))
 
 pub masks-clean : MasksClean
 masks-clean rules cs globals locals budget out x bytes g l a clean =
     subst CleanMasks (sym (items-are rules cs globals locals budget out x bytes g l a))
-    (whole-clean rules clean _ (whole-items rules cs globals locals budget out x bytes g l a))
+    (whole-clean rules clean _ _ (whole-items rules cs globals locals budget out x bytes g l a))
+
+pub ends-in-endchar : EndsInEndchar
+ends-in-endchar rules cs globals locals budget out x bytes g l a finished =
+    subst (EndcharLast rules) (sym (items-are rules cs globals locals budget out x bytes g l a))
+    (whole-ends rules _ _ (ended-run rules cs globals locals budget out x bytes g l a finished)
+    (whole-items rules cs globals locals budget out x bytes g l a))
+
+pub ends-in-14 : EndsIn14
+ends-in-14 rules cs globals locals budget out x bytes g l a finished kinds =
+    subst (LastByte 14) (sym (reported-is rules cs globals locals budget out x bytes g l a))
+    (whole-last rules kinds _ _ (ended-run rules cs globals locals budget out x bytes g l a finished)
+    (whole-items rules cs globals locals budget out x bytes g l a))
 
 pub never-eight : NeverEight
 never-eight rules cs globals locals budget out v bytes g l clean q =
     run-not-eight rules clean (listsOf (rules .width) globals locals) budget (lists-bytes (rules .width) globals locals g l) cs bytes
-    (run-stopped rules cs globals locals budget out 8 v (λ e. omega arith) (λ e. omega arith) (λ e. omega arith) q)
+    (run-stopped rules cs globals locals budget out 8 v (λ e. omega arith) (λ e. omega arith) (λ e. omega arith) (λ e. omega arith) q)
 
 pub within-budget : WithinBudget
 within-budget rules cs globals locals budget out x bytes g l a = answer-within rules cs globals locals budget out x a

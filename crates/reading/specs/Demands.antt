@@ -7,17 +7,18 @@ use mathlib.Core.List.{List, [], _∷_, _++_}
 use mathlib.Core.Logic.{_⊎_}
 use lib.ListN.{length, take, drop, replicate}
 use Rattle.number.specs.Answer.{Values, accepted, refused, atToken, leaving}
-use Rattle.reading.specs.Rules.{Rules, plain, strict}
+use Rattle.reading.specs.Rules.{Rules, type2, plain, strict}
 use Rattle.reading.specs.Tokens.{Bytes}
 use Rattle.reading.specs.Items.{Item, operand, bare, masked}
 use Rattle.reading.specs.Reading.{struck, original}
 use Rattle.reading.specs.Flat.{straight}
 use Rattle.reading.specs.Answers.{Flattening, flattening}
 use Rattle.reading.specs.Masks.{StemsFirst, ByNote, CleanMasks}
+use Rattle.reading.specs.declared.Operator.{Operator}
 use Rattle.reading.specs.declared.Kind.{Kind}
 use Rattle.reading.specs.declared.Kind.the-variants.{Stem, Clear, Mask, Call, Return, End, Unknown}
 
--- ---- no call and no return
+-- ---- what is not among the items
 
 abbrev pub leads : Kind → Bool
 leads Stem = false
@@ -28,15 +29,37 @@ leads Return = true
 leads End = false
 leads Unknown = false
 
-abbrev pub operatorOf : Rules → Item → Bool
-operatorOf rules (operand o) = false
-operatorOf rules (bare p) = leads (rules .kind p)
-operatorOf rules (masked p m) = leads (rules .kind p)
+abbrev pub isEnd : Kind → Bool
+isEnd Stem = false
+isEnd Clear = false
+isEnd Mask = false
+isEnd (Call which) = false
+isEnd Return = false
+isEnd End = true
+isEnd Unknown = false
 
--- items among which there is no call and no return
+-- whether an item is an operator of such a kind
+abbrev pub kindIs : (Kind → Bool) → Rules → Item → Bool
+kindIs is rules (operand o) = false
+kindIs is rules (bare p) = is (rules .kind p)
+kindIs is rules (masked p m) = is (rules .kind p)
+
+-- no item is
+abbrev pub None : (Kind → Bool) → Rules → List Item → Type 0
+None is rules [] = Unit {0}
+None is rules (i ∷ f) = (kindIs is rules i ≡ false) × None is rules f
+
+-- there is no call and no return
 abbrev pub Flat : Rules → List Item → Type 0
-Flat rules [] = Unit {0}
-Flat rules (i ∷ f) = (operatorOf rules i ≡ false) × Flat rules f
+Flat rules f = None leads rules f
+
+-- the last item, which stands first here, is endchar, and no other is
+abbrev pub EndcharLast : Rules → List Item → Type 0
+EndcharLast rules [] = ⊥
+EndcharLast rules (i ∷ f) = (kindIs isEnd rules i ≡ true) × None isEnd rules f
+
+abbrev pub LastByte : ℕ → List ℕ → Type 0
+LastByte b s = (before : List ℕ) × (s ≡ before ++ (b ∷ []))
 
 -- ---- demand 3
 
@@ -85,6 +108,16 @@ abbrev pub MasksClean : Type 0
 MasksClean = OfAccepted (λ rules cs globals locals budget out x.
     rules .clean ≡ true → CleanMasks (straight rules (reported rules cs globals locals budget out x) .items))
 
+-- and by rules that want it F ends in endchar, and has no other
+abbrev pub EndsInEndchar : Type 0
+EndsInEndchar = OfAccepted (λ rules cs globals locals budget out x.
+    rules .finished ≡ true → EndcharLast rules (straight rules (reported rules cs globals locals budget out x) .items))
+
+-- which is the byte 14 where the operators are Type 2's
+abbrev pub EndsIn14 : Type 0
+EndsIn14 = OfAccepted (λ rules cs globals locals budget out x.
+    rules .finished ≡ true → ((p : Operator) → rules .kind p ≡ type2 p) → LastByte 14 (reported rules cs globals locals budget out x))
+
 -- demand 1's budget: the tokens are at most the budget; a budget of at least the tokens changes nothing; a smaller one is refused with 3
 abbrev pub WithinBudget : Type 0
 WithinBudget = OfAccepted (λ rules cs globals locals budget out x. x .tokens ≤ budget)
@@ -108,6 +141,10 @@ StrictThenPlain =
 -- its number: 3 to 12, or 15
 abbrev pub RunRefusal : ℕ → Type 0
 RunRefusal k = (3 ≤ k) × ((k ≤ 12) ⊎ (k ≡ 15))
+
+-- a charstring's own number, whatever the lists and the room: its run's, or 16 by rules that want an endchar
+abbrev pub OwnRefusal : Rules → ℕ → Type 0
+OwnRefusal rules k = RunRefusal k ⊎ ((k ≡ 16) × (rules .finished ≡ true))
 
 -- by clean rules never 8: an index that waits stands last
 abbrev pub NeverEight : Type 0

@@ -21,5 +21,6 @@ pub mod AnswerLaws
 pub mod SameGlyphLaws
 pub mod MaskLaws
 pub mod CleanLaws
+pub mod EndcharLaws
 pub mod DemandLaws
 pub mod Rows

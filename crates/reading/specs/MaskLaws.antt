@@ -9,6 +9,7 @@ use lib.ListN.{length}
 use borrow.Author.Tests.{eq-eqb, ne-eqb, eqb-true, eqb-false}
 use Rattle.reading.specs.Rules.{Rules}
 use Rattle.reading.specs.Items.{Item, operand, bare, masked, Left, atMask, byKind, leaves, leftBy}
+use Rattle.reading.specs.Reading.{Ending}
 use Rattle.reading.specs.Masks.{isStem, waiting, hasMask, declared, maskBytes, StemsFirst, ByNote}
 use Rattle.reading.specs.Valid.{Valid, none, number-behind, stem-behind, clear-behind, mask-behind, Whole, open-ended, end-behind}
 use Rattle.reading.specs.declared.Kind.{Kind}
@@ -102,6 +103,6 @@ module _ (rules : Rules) where
   valid-note f (clear-behind p g c k v) s = valid-note g v (s .1)
   valid-note f (mask-behind p m g c k w l n v) s = (n ∙ mask-now g (tied g v s), valid-note g v s)
 
-  pub whole-note : (f : List Item) → Whole rules f → StemsFirst rules f → ByNote rules f
-  whole-note f (open-ended g v) s = valid-note g v s
-  whole-note f (end-behind p g c k l v) s = valid-note g v (s .1)
+  pub whole-note : (e : Ending) (f : List Item) → Whole rules e f → StemsFirst rules f → ByNote rules f
+  whole-note e f (open-ended g v) s = valid-note g v s
+  whole-note e f (end-behind p g c k l v) s = valid-note g v (s .1)

@@ -54,7 +54,7 @@ pub data Ending : Type 0 where
   ended : Ending
   stopped : ℕ → Ending
 
--- a run that comes to its end is accepted
+-- a run that comes to its end: no token of it was refused
 abbrev pub Accepted : Ending → Type 0
 Accepted back = Unit {0}
 Accepted ended = Unit {0}

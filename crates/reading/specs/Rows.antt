@@ -1,8 +1,9 @@
--- The starred rows (RULES, "Examples"), proved as one list; and lists of ours: what those rows miss, refusals that compete, masks in strict, a third rule set.
+-- The starred rows (RULES, "Examples"), proved as one list; and lists of ours: what those rows miss, refusals that compete,
+-- masks and the end in strict, a third rule set.
 use mathlib.Core.Path.{_≡_, refl}
 use mathlib.Core.List.{List, [], _∷_, _++_}
 use mathlib.Core.Bool.{Bool, true, false}
-use Prim.Native.Nat.{ℕ}
+use Prim.Native.Nat.{ℕ, _+_}
 use lib.ListN.{length, drop, replicate}
 use Rattle.number.specs.Answer.{Values, alone, atToken, needingAt, atEntry, because, Answer, accepted, refused, Outcome, leaving, into}
 use Rattle.number.specs.BigEndian.{beAt, bytesOf}
@@ -20,7 +21,7 @@ use Rattle.reading.specs.Tokens.{escapedAt, operatorAt, cutBy, cut}
 use Rattle.reading.specs.Reading.{struck, tokensBy, endsInOperand, admitted, onNumber, onStem, onMask, onEnd, onEntry}
 use Rattle.reading.specs.Reading.{onIndex, onCall, onOperator, onCut, onToken, resume, after, tokensOf, read, reading}
 use Rattle.reading.specs.Flat.{spelled, flat}
-use Rattle.reading.specs.Answers.{Flattening, readyBy, outcome, listGate, flattening}
+use Rattle.reading.specs.Answers.{Flattening, readyBy, judged, outcome, listGate, flattening}
 
 -- what a row expects: a flat string and its tokens, or a refusal and what comes with it
 pub data Expected : Type 0 where
@@ -143,7 +144,7 @@ more =
 
 -- plain, without a level below the charstring
 abbrev shallow : Rules
-shallow = record { operands = 48; levels = 0; hints = 65535; exact = false; clean = false; width = 2; kind = type2 }
+shallow = record { operands = 48; levels = 0; hints = 65535; exact = false; clean = false; finished = false; width = 2; kind = type2 }
 
 -- an operand in front of a mask whose length is fixed, and a call behind it: the index does not stand last
 abbrev behindMask : List ℕ → List ℕ
@@ -206,13 +207,53 @@ masksInStrict =
     ∷ strictly (fixed (0x13 ∷ 0x80 ∷ 0x0E ∷ [])) none (gives (fixed (0x13 ∷ 0x80 ∷ 0x0E ∷ [])) 6)
     ∷ []
 
+-- ---- the end in strict
+
+-- a list of one entry
+abbrev only : List ℕ → List ℕ
+only body = 0x00 ∷ 0x01 ∷ 0x01 ∷ 0x01 ∷ (length body + 1) ∷ body
+
+abbrev pub endsInStrict : List Row
+endsInStrict =
+    -- 16 alone: the empty charstring, one that runs out, and one that returns; plain takes the same
+    strictly [] none (refuses 16 alone)
+    ∷ strictly (0x8B ∷ 0x8C ∷ 0x15 ∷ []) none (refuses 16 alone)
+    ∷ row (0x8B ∷ 0x8C ∷ 0x15 ∷ []) none (gives (0x8B ∷ 0x8C ∷ 0x15 ∷ []) 3)
+    ∷ strictly (0x0B ∷ 0x0E ∷ []) none (refuses 16 alone)
+    ∷ row (0x0B ∷ 0x0E ∷ []) none (gives [] 1)
+    -- a subroutine that only returns, and one that runs out: the charstring's own end decides
+    ∷ strictly (0x20 ∷ 0x0A ∷ []) L (refuses 16 alone)
+    ∷ strictly (0x20 ∷ 0x0A ∷ 0x0E ∷ []) L (gives (0x8C ∷ 0x8D ∷ 0x15 ∷ 0x0E ∷ []) 7)
+    ∷ strictly (0x20 ∷ 0x0A ∷ []) (only (0x8C ∷ 0x16 ∷ [])) (refuses 16 alone)
+    ∷ strictly (0x20 ∷ 0x0A ∷ 0x0E ∷ []) (only (0x8C ∷ 0x16 ∷ [])) (gives (0x8C ∷ 0x16 ∷ 0x0E ∷ []) 5)
+    -- one that ends by endchar
+    ∷ strictly (0x20 ∷ 0x0A ∷ []) (only (0x0E ∷ [])) (gives (0x0E ∷ []) 3)
+    ∷ strictly (0x20 ∷ 0x0A ∷ 0x0B ∷ []) (only (0x0E ∷ [])) (gives (0x0E ∷ []) 3)
+    ∷ []
+
+-- 16 and another compete
+abbrev pub endsInTurn : List Row
+endsInTurn =
+    -- before 13, which plain answers
+    within strict 1000 0 (0x8B ∷ []) none none (refuses 16 alone)
+    ∷ within plain 1000 0 (0x8B ∷ []) none none (refuses 13 (needingAt 1 1))
+    ∷ within strict 1000 0 (0x0E ∷ []) none none (refuses 13 (needingAt 1 1))
+    -- behind every refusal of the run, and of the lists
+    ∷ strictly (0x00 ∷ []) none (refuses 6 (atToken 1))
+    ∷ strictly (0x8B ∷ 0x8B ∷ 0x8B ∷ 0x8B ∷ 0x0E ∷ []) none (refuses 12 (atToken 5))
+    ∷ within strict 0 32 (0x8B ∷ []) none none (refuses 3 (atToken 0))
+    ∷ within strict 1 32 (0x8B ∷ []) none none (refuses 16 alone)
+    ∷ within strict 0 32 [] none [] (refuses 2 (because 20 alone))
+    ∷ []
+
 -- ---- a third rule set
 
 -- no profile's: a value of the code's record, and the runner's proof is over any such value
 abbrev pub third : CodeRules
-third = record { operands = 513; levels = 10; hints = 96; ends = false; exact = true; clean = false; width = Four }
+third = record { operands = 513; levels = 10; hints = 96; ends = false; exact = true; clean = false; finished = false; width = Four }
 
-pub third-meant : meant third ≡ record { operands = 513; levels = 10; hints = 96; exact = true; clean = false; width = 4; kind = kindBy false }
+pub third-meant : meant third
+    ≡ record { operands = 513; levels = 10; hints = 96; exact = true; clean = false; finished = false; width = 4; kind = kindBy false }
 third-meant = refl
 
 abbrev noneWide : List ℕ
@@ -235,9 +276,9 @@ thirds =
     ∷ byThird (replicate 49 0x8B ++ (0x05 ∷ [])) (gives (replicate 49 0x8B ++ (0x05 ∷ [])) 50)
     ∷ []
 
--- one theorem over the reading's definition for all five lists
-pub rows-hold : All starred × All more × All competing × All masksInStrict × All thirds
-unfolding expectedBy into readyBy outcome listGate flattening
+-- one theorem over the reading's definition for all seven lists
+pub rows-hold : All starred × All more × All competing × All masksInStrict × All endsInStrict × All endsInTurn × All thirds
+unfolding expectedBy into readyBy judged outcome listGate flattening
     beAt bytesOf signed unsigned integerRows rowsOf rowOf valueBy numberBy readBy formBy spell bytes bytesBy spelling
     bitLength counts callIndex entryOf biased callee
     offset byLast bySize byCount extent placeBy placeIn place partBytes part unless entriesFrom formedBy formation
@@ -249,6 +290,8 @@ rows-hold = (
   (refl, (refl, (refl, (refl, (refl, (refl, (refl, (refl, (refl, (refl, (refl, (refl, (refl, (refl, (refl, (refl, tt)))))))))))))))),
   (refl, (refl, (refl, (refl, (refl, (refl, (refl, (refl, tt)))))))),
   (refl, (refl, (refl, (refl, (refl, (refl, (refl, (refl, (refl, (refl, (refl, (refl, (refl, (refl, tt)))))))))))))),
+  (refl, (refl, (refl, (refl, (refl, (refl, (refl, (refl, (refl, (refl, (refl, tt))))))))))),
+  (refl, (refl, (refl, (refl, (refl, (refl, (refl, (refl, tt)))))))),
   (refl, (refl, (refl, (refl, tt)))),
 )
 

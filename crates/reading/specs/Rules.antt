@@ -19,6 +19,7 @@ pub record Rules : Type 0 where
   pub hints : ℕ  -- how many stem hints there may be
   pub exact : Bool  -- whether a Fixed index must be whole exactly, or as f32 rounds it
   pub clean : Bool  -- whether no operand may wait at a mask whose length is fixed
+  pub finished : Bool  -- whether a charstring must end by endchar
   pub width : ℕ  -- how many bytes the count of a list has
   pub kind : Operator → Kind  -- what an operator is
 
@@ -53,11 +54,11 @@ abbrev pub type2 : Operator → Kind
 type2 = kindBy true
 
 abbrev pub plain : Rules
-plain = record { operands = 48; levels = 63; hints = 65535; exact = false; clean = false; width = 2; kind = type2 }
+plain = record { operands = 48; levels = 63; hints = 65535; exact = false; clean = false; finished = false; width = 2; kind = type2 }
 
--- TN5177, appendix B: ten nested calls, and 96 stem hints; section 4.3: operands at a mask only as stems, before the first
+-- TN5177, appendix B: ten nested calls, and 96 stem hints; section 4.2: endchar last; section 4.3: operands at a mask only as stems, before the first
 abbrev pub strict : Rules
-strict = record { operands = 48; levels = 10; hints = 96; exact = true; clean = true; width = 2; kind = type2 }
+strict = record { operands = 48; levels = 10; hints = 96; exact = true; clean = true; finished = true; width = 2; kind = type2 }
 
 abbrev pub rulesOf : Profile → Rules
 rulesOf Plain = plain
@@ -72,6 +73,7 @@ meant r =
       hints = r .hints;
       exact = r .exact;
       clean = r .clean;
+      finished = r .finished;
       width = widthOf (r .width);
       kind = kindBy (r .ends);
     }

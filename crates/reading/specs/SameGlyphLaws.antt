@@ -1,5 +1,6 @@
 -- That the flat string of an accepted flattening is the same glyph, over any rules, and comes back when it is flattened again. Assumes nothing.
 use mathlib.Core.Path.{_≡_, refl, sym, ap, subst, _∙_}
+use mathlib.Core.Bool.{Bool, true, false}
 use mathlib.Core.List.{List, [], _∷_, _++_}
 use Prim.Native.Nat.{ℕ, zero, suc, _≤_}
 use native.Mathlib.Nat.{zero-add}
@@ -18,35 +19,39 @@ use Rattle.reading.specs.Lists.{Lists, present, entryBy, subrsOf, listsO
 use Rattle.reading.specs.Tokens.{Bytes}
 use Rattle.reading.specs.CutLaws.{bytes-drop}
 use Rattle.reading.specs.Items.{Item}
-use Rattle.reading.specs.Reading.{Shown, struck, State, Ending, back, ended, stopped, Accepted, Run, tokensBy, tokens, reading, original}
+use Rattle.reading.specs.Reading.{Shown, struck, State, Ending, back, ended, stopped, Accepted, Run, tokens, reading, original}
 use Rattle.reading.specs.Flat.{flat, Straight, straight}
-use Rattle.reading.specs.Answers.{Flattening, flatOf, flatReady, readyBy, outcome, flattening}
-use Rattle.reading.specs.Demands.{leads, Flat, empty, SameGlyph, reported}
+use Rattle.reading.specs.Answers.{Flattening, flatOf, flatReady, outcome, flattening}
+use Rattle.reading.specs.Demands.{leads, None, Flat, empty, SameGlyph, reported}
 use Rattle.reading.specs.BudgetLaws.{count}
-use Rattle.reading.specs.AnswerLaws.{accepted-tokens, gate-open, Took, flattening-took}
+use Rattle.reading.specs.AnswerLaws.{AcceptedBy, came-to-end, must-end, judged-accepted, accepted-tokens, gate-open, Took, flattening-took}
 use Rattle.reading.specs.SizeLaws.{struck-fewer}
 use Rattle.reading.specs.Valid.{Valid, none, number-behind, stem-behind, clear-behind, mask-behind, Whole, open-ended, end-behind, Ends, ByteLists}
 use Rattle.reading.specs.ValidLaws.{run-ends}
 use Rattle.reading.specs.StraightLaws.{whole-back, struck-shown, count-shown, Just, read-again}
 use Rattle.reading.specs.declared.Which.the-variants.{Local, Global}
+use Rattle.reading.specs.declared.Kind.{Kind}
+use Rattle.reading.specs.declared.Kind.the-variants.{Stem, Clear, Mask}
 
 -- ---- no call and no return
 
 module _ (rules : Rules) where
-  valid-flat : (f : List Item) → Valid rules f → Flat rules f
-  valid-flat f none = tt
-  valid-flat f (number-behind o g p l v) = (refl, valid-flat g v)
-  valid-flat f (stem-behind p g c k l v) = (ap leads k, valid-flat g v)
-  valid-flat f (clear-behind p g c k v) = (ap leads k, valid-flat g v)
-  valid-flat f (mask-behind p m g c k w l n v) = (ap leads k, valid-flat g v)
+  -- valid items have operators of three kinds
+  pub valid-none : (is : Kind → Bool) → is Stem ≡ false → is Clear ≡ false → is Mask ≡ false → (f : List Item) → Valid rules f
+      → None is rules f
+  valid-none is a b d f none = tt
+  valid-none is a b d f (number-behind o g p l v) = (refl, valid-none is a b d g v)
+  valid-none is a b d f (stem-behind p g c k l v) = (ap is k ∙ a, valid-none is a b d g v)
+  valid-none is a b d f (clear-behind p g c k v) = (ap is k ∙ b, valid-none is a b d g v)
+  valid-none is a b d f (mask-behind p m g c k w l n v) = (ap is k ∙ d, valid-none is a b d g v)
 
-  whole-flat : (f : List Item) → Whole rules f → Flat rules f
-  whole-flat f (open-ended g v) = valid-flat g v
-  whole-flat f (end-behind p g c k l v) = (ap leads k, valid-flat g v)
+  whole-flat : (e : Ending) (f : List Item) → Whole rules e f → Flat rules f
+  whole-flat e f (open-ended g v) = valid-none leads refl refl refl g v
+  whole-flat e f (end-behind p g c k l v) = (ap leads k, valid-none leads refl refl refl g v)
 
--- ---- the items of an accepted run
+-- ---- the items of a run that came to its end
 
-accepted-whole : (rules : Rules) (e : Ending) (s : State) → Accepted e → Ends rules e s → Whole rules (struck (s .shown))
+accepted-whole : (rules : Rules) (e : Ending) (s : State) → Accepted e → Ends rules e s → Whole rules e (struck (s .shown))
 accepted-whole rules back s a g = open-ended (struck (s .shown)) (g .valid)
 accepted-whole rules ended s a g = g .whole
 accepted-whole rules (stopped n) s a g = absurd a
@@ -57,18 +62,18 @@ module _ (rules : Rules) (lists : Lists) (budget : ℕ) (cs : List ℕ) (entries
   abbrev pub left-over : List Item
   left-over = struck (reading rules lists budget cs .state .shown)
 
-  pub whole : Whole rules left-over
+  pub whole : Whole rules (reading rules lists budget cs .how) left-over
   whole =
       let r = reading rules lists budget cs in
       accepted-whole rules (r .how) (r .state) a (run-ends rules lists budget entries-bytes cs bytes)
 
   -- Read straight through, F shows exactly those items, in order, and consumes every byte.
   pub same-glyph : straight rules (flatOf (reading rules lists budget cs)) ≡ record { items = left-over; rest = [] }
-  same-glyph = whole-back rules left-over whole
+  same-glyph = whole-back rules _ left-over whole
 
   -- So it holds no call and no return.
   pub no-calls : Flat rules (straight rules (flatOf (reading rules lists budget cs)) .items)
-  no-calls = subst (λ (x : Straight). Flat rules (x .items)) (sym same-glyph) (whole-flat rules left-over whole)
+  no-calls = subst (λ (x : Straight). Flat rules (x .items)) (sym same-glyph) (whole-flat rules _ left-over whole)
 
   -- F has no more items than the run has tokens, so budget n is enough,
   pub items-tokens : length left-over ≤ tokens (reading rules lists budget cs)
@@ -76,9 +81,10 @@ module _ (rules : Rules) (lists : Lists) (budget : ℕ) (cs : List ℕ) (entries
       let r = reading rules lists budget cs in
       subst (λ (n : ℕ). length left-over ≤ n) (sym (accepted-tokens (r .how) (count (r .state)) a)) (struck-fewer (r .state .shown))
 
-  -- and F read again, with any lists, shows just its items.
-  pub just-again : (other : Lists) (n : ℕ) → length left-over ≤ n → Just left-over (reading rules other n (flatOf (reading rules lists budget cs)))
-  just-again other n h = read-again rules other n left-over whole h
+  -- and F read again, with any lists, ends as it did and shows just its items.
+  pub just-again : (other : Lists) (n : ℕ) → length left-over ≤ n
+      → Just (reading rules lists budget cs .how) left-over (reading rules other n (flatOf (reading rules lists budget cs)))
+  just-again other n h = read-again rules other n _ left-over whole h
 
 -- ---- flattening a flat string again
 
@@ -113,29 +119,30 @@ empty-formed rules = zeros-formed (rules .width)
 abbrev gives : List Item → List ℕ → Outcome (Answer Flattening)
 gives f out = leaving (accepted (record { size = length (flat f); tokens = length f })) (flat f ++ drop (length (flat f)) out)
 
--- a run that is just these items, and room for their bytes
-module _ (f : List Item) (out : List ℕ) (r : Run) (j : Just f r) (h : length (flat f) ≤ length out) where
+-- a run that is just these items, ends as the rules want, and room for their bytes
+module _ (rules : Rules) (e : Ending) (a : AcceptedBy rules e) (f : List Item) (out : List ℕ) (r : Run) (j : Just e f r)
+    (h : length (flat f) ≤ length out) where
   bytes-are : flatOf r ≡ flat f
   bytes-are = ap (λ (s : List Shown). flat (struck s)) (j .shown) ∙ ap flat (struck-shown f)
 
   count-is : length (r .state .shown) ≡ length f
   count-is = ap length (j .shown) ∙ count-shown f
 
-  fits-it : tokens r ≡ length f → into out (accepted (flatReady r)) ≡ gives f out
-  fits-it e =
+  as-wanted : AcceptedBy rules (r .how)
+  as-wanted = subst (AcceptedBy rules) (sym (j .how)) a
+
+  tokens-are : tokens r ≡ length f
+  tokens-are = accepted-tokens (r .how) (length (r .state .shown)) (came-to-end rules (r .how) as-wanted) ∙ count-is
+
+  fits-it : into out (accepted (flatReady r)) ≡ gives f out
+  fits-it =
       into-fits out (flatReady r) (subst (λ (l : List ℕ). length l ≤ length out) (sym bytes-are) h)
-      ∙ ap (λ (n : ℕ). leaving (accepted (record { size = length (flatOf r); tokens = n })) (flatOf r ++ drop (length (flatOf r)) out)) e
+      ∙ ap (λ (n : ℕ). leaving (accepted (record { size = length (flatOf r); tokens = n })) (flatOf r ++ drop (length (flatOf r)) out)) tokens-are
       ∙ ap (λ (l : List ℕ). leaving (accepted (record { size = length l; tokens = length f })) (l ++ drop (length l) out)) bytes-are
 
-  answer-is : (e : Ending) → r .how ≡ e → Accepted e → into out (readyBy r e) ≡ gives f out
-  unfolding readyBy tokensBy
-  answer-is back k a = fits-it (ap (tokensBy (length (r .state .shown))) k ∙ count-is)
-  answer-is ended k a = fits-it (ap (tokensBy (length (r .state .shown))) k ∙ count-is)
-  answer-is (stopped n) k a = absurd a
-
-  just-outcome : outcome out r ≡ gives f out
+  just-outcome : outcome rules out r ≡ gives f out
   unfolding outcome
-  just-outcome = answer-is (r .how) refl (j .accepted)
+  just-outcome = ap (into out) (judged-accepted rules r as-wanted) ∙ fits-it
 
 -- ---- the entries of lists of bytes are bytes
 
@@ -175,8 +182,11 @@ module _ (rules : Rules) (cs globals locals : List ℕ) (budget : ℕ) (out : Li
   abbrev lists : Lists
   lists = listsOf (rules .width) globals locals
 
-  took : Took out run x (flattening rules cs globals locals budget out .left)
+  took : Took rules out run x (flattening rules cs globals locals budget out .left)
   took = flattening-took rules cs globals locals budget out x a
+
+  to-its-end : Accepted (run .how)
+  to-its-end = came-to-end rules (run .how) (took .accepted-by)
 
   entries : ByteLists lists
   entries = lists-bytes (rules .width) globals locals g l
@@ -184,8 +194,11 @@ module _ (rules : Rules) (cs globals locals : List ℕ) (budget : ℕ) (out : Li
   abbrev items : List Item
   items = struck (run .state .shown)
 
-  pub whole-items : Whole rules items
-  whole-items = whole rules lists budget cs entries bytes (took .accepted-run)
+  pub whole-items : Whole rules (run .how) items
+  whole-items = whole rules lists budget cs entries bytes to-its-end
+
+  pub ended-run : rules .finished ≡ true → run .how ≡ ended
+  ended-run = must-end rules (run .how) (took .accepted-by)
 
   -- F, as it stands at the start of the room
   pub reported-is : reported rules cs globals locals budget out x ≡ flatOf run
@@ -194,22 +207,22 @@ module _ (rules : Rules) (cs globals locals : List ℕ) (budget : ℕ) (out : Li
       ∙ take-at (flatOf run) (drop (length (flatOf run)) out) (x .size) (sym (took .size))
 
   pub shown-is : straight rules (flatOf run) ≡ record { items = items; rest = [] }
-  shown-is = same-glyph rules lists budget cs entries bytes (took .accepted-run)
+  shown-is = same-glyph rules lists budget cs entries bytes to-its-end
 
   pub items-are : straight rules (reported rules cs globals locals budget out x) .items ≡ items
   items-are = ap (λ (f : List ℕ). straight rules f .items) reported-is ∙ ap (λ (y : Straight). y .items) shown-is
 
   enough : length items ≤ x .tokens
-  enough = subst (λ (n : ℕ). length items ≤ n) (sym (took .tokens-are)) (items-tokens rules lists budget cs entries bytes (took .accepted-run))
+  enough = subst (λ (n : ℕ). length items ≤ n) (sym (took .tokens-are)) (items-tokens rules lists budget cs entries bytes to-its-end)
 
   flattened-again : (out₁ : List ℕ) → x .size ≤ length out₁
       → flattening rules (flatOf run) (empty rules) (empty rules) (x .tokens) out₁ ≡ gives items out₁
   unfolding flattening
   flattened-again out₁ h =
-      let j = just-again rules lists budget cs entries bytes (took .accepted-run) (listsOf (rules .width) (empty rules) (empty rules)) (x .tokens) enough in
+      let j = just-again rules lists budget cs entries bytes to-its-end (listsOf (rules .width) (empty rules) (empty rules)) (x .tokens) enough in
       gate-open 1 out₁ (formation (rules .width) (empty rules)) 0 (empty-formed rules) _
       ∙ gate-open 2 out₁ (formation (rules .width) (empty rules)) 0 (empty-formed rules) _
-      ∙ just-outcome items out₁ (original rules (flatOf run) (empty rules) (empty rules) (x .tokens)) j
+      ∙ just-outcome rules (run .how) (took .accepted-by) items out₁ (original rules (flatOf run) (empty rules) (empty rules) (x .tokens)) j
       (subst (λ (n : ℕ). n ≤ length out₁) (took .size) h)
 
   pub same-items : SameGlyph rules cs globals locals budget x (flatOf run)
@@ -217,7 +230,7 @@ module _ (rules : Rules) (cs globals locals : List ℕ) (budget : ℕ) (out : Li
       record {
         size = sym (took .size);
         shows = shown-is;
-        flat-items = no-calls rules lists budget cs entries bytes (took .accepted-run);
+        flat-items = no-calls rules lists budget cs entries bytes to-its-end;
         again = λ out₁ h. flattened-again out₁ h
             ∙ ap (λ (n : ℕ). leaving (accepted (record { size = n; tokens = length items })) (flatOf run ++ drop n out₁)) (sym (took .size))
             ∙ ap (λ (y : Straight). leaving (accepted (record { size = x .size; tokens = length (y .items) })) (flatOf run ++ drop (x .size) out₁))

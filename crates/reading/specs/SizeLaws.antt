@@ -75,9 +75,9 @@ module _ (rules : Rules) where
       let w = at-mask (leftBy rules g) (mask-most g v) l in
       more g (masked p m) (valid-most g v) (omega (arith, length-append (operatorBytes p) m))
 
-  whole-most : (f : List Item) → Whole rules f → length (flat f) ≤ longestItem rules * length f
-  whole-most f (open-ended g v) = valid-most g v
-  whole-most f (end-behind p g c k l v) = more g (bare p) (valid-most g v) (bare-most p)
+  whole-most : (e : Ending) (f : List Item) → Whole rules e f → length (flat f) ≤ longestItem rules * length f
+  whole-most e f (open-ended g v) = valid-most g v
+  whole-most e f (end-behind p g c k l v) = more g (bare p) (valid-most g v) (bare-most p)
 
 -- striking out leaves no more items than tokens
 pub struck-fewer : (h : List Shown) → length (struck h) ≤ length h
@@ -90,7 +90,7 @@ struck-fewer (return ∷ h) = let k = struck-fewer h in omega arith
 module _ (rules : Rules) (lists : Lists) (budget : ℕ) (entries : ByteLists lists) where
   pub ends-most : (e : Ending) (s : State) → Ends rules e s → length (flat (struck (s .shown))) ≤ longestItem rules * length (struck (s .shown))
   ends-most back s g = valid-most rules _ (g .valid)
-  ends-most ended s g = whole-most rules _ (g .whole)
+  ends-most ended s g = whole-most rules ended _ (g .whole)
   ends-most (stopped n) s g = valid-most rules _ (g .valid)
 
   -- a flat string is bounded by its run's tokens

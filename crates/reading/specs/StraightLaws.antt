@@ -7,7 +7,6 @@ use native.Mathlib.Nat.{add-zero, suc-add, add-suc}
 use native.Mathlib.Omega.{arith}
 use lib.ListN.{length, drop, length-append}
 use lib.Seq.{take-at, drop-at}
-use Rattle.number.specs.Answer.{accepted}
 use Rattle.number.specs.Number.{charstringRows}
 use Rattle.number.specs.Written.{spelling}
 use Rattle.number.specs.RoundTripLaws.{Spellable, read-spelling, spelling-some}
@@ -22,6 +21,7 @@ use Rattle.reading.specs.Reading.{
   struck,
   State,
   start,
+  Ending,
   back,
   ended,
   Run,
@@ -33,7 +33,6 @@ use Rattle.reading.specs.Reading.{
   tokensOf,
   read,
   reading,
-  Accepted,
 }
 use Rattle.reading.specs.Flat.{operatorBytes, spelled, flat, Straight, isMask, shownBehind, behind, straightFrom, straight}
 use Rattle.reading.specs.StepLaws.{Goes, pushes, stems, clears, masks, ends, token-goes}
@@ -120,9 +119,9 @@ module _ (rules : Rules) where
   valid-straight f (clear-behind p g c k v) fuel z = back-behind g (bare p) (valid-straight g v) (bare-back g p c Clear k refl) fuel z
   valid-straight f (mask-behind p m g c k w l n v) fuel z = back-behind g (masked p m) (valid-straight g v) (mask-back g p m c k n) fuel z
 
-  whole-straight : (f : List Item) → Whole rules f → AllBack f
-  whole-straight f (open-ended g v) = valid-straight g v
-  whole-straight f (end-behind p g c k l v) = back-behind g (bare p) (valid-straight g v) (bare-back g p c End k refl)
+  whole-straight : (e : Ending) (f : List Item) → Whole rules e f → AllBack f
+  whole-straight e f (open-ended g v) = valid-straight g v
+  whole-straight e f (end-behind p g c k l v) = back-behind g (bare p) (valid-straight g v) (bare-back g p c End k refl)
 
   -- each item has a byte at least
   item-some : (f : List Item) (i : Item) → length f ≤ length (flat f) → 0 < length (spelled i) → length (i ∷ f) ≤ length (flat (i ∷ f))
@@ -137,24 +136,24 @@ module _ (rules : Rules) where
   valid-fewer f (clear-behind p g c k v) = item-some g (bare p) (valid-fewer g v) (operator-some p)
   valid-fewer f (mask-behind p m g c k w l n v) = item-some g (masked p m) (valid-fewer g v) (some (operatorBytes p) m (operator-some p))
 
-  whole-fewer : (f : List Item) → Whole rules f → length f ≤ length (flat f)
+  whole-fewer : (e : Ending) (f : List Item) → Whole rules e f → length f ≤ length (flat f)
   unfolding spelled
-  whole-fewer f (open-ended g v) = valid-fewer g v
-  whole-fewer f (end-behind p g c k l v) = item-some g (bare p) (valid-fewer g v) (operator-some p)
+  whole-fewer e f (open-ended g v) = valid-fewer g v
+  whole-fewer e f (end-behind p g c k l v) = item-some g (bare p) (valid-fewer g v) (operator-some p)
 
   nothing-left : (fuel : ℕ) (f : List Item) → straightFrom rules fuel f [] ≡ record { items = f; rest = [] }
   unfolding straightFrom
   nothing-left zero f = refl
   nothing-left (suc fuel) f = refl
 
-  pub whole-back : (f : List Item) → Whole rules f → straight rules (flat f) ≡ record { items = f; rest = [] }
+  pub whole-back : (e : Ending) (f : List Item) → Whole rules e f → straight rules (flat f) ≡ record { items = f; rest = [] }
   unfolding straight
-  whole-back f w =
+  whole-back e f w =
       let more = length (flat f) - length f in
-      let n : length (flat f) ≡ more + length f = let h = whole-fewer f w in omega arith in
+      let n : length (flat f) ≡ more + length f = let h = whole-fewer e f w in omega arith in
       ap (λ (m : ℕ). straightFrom rules m [] (flat f)) n
       ∙ ap (straightFrom rules (more + length f) []) (sym (append-nil (flat f)))
-      ∙ whole-straight f w more []
+      ∙ whole-straight e f w more []
       ∙ nothing-left more f
 
 -- ---- as a charstring
@@ -287,40 +286,40 @@ module _ (rules : Rules) where
     end-again f p c k l h fuel =
         follows f h fuel (operatorBytes p ++ []) (there f h p c []) _ (ends p [] (c []) k l)
 
--- What a run that read just the items f gives: it is accepted, and has shown them and nothing else.
-pub record Just (f : List Item) (r : Run) : Type 0 where
-  pub accepted : Accepted (r .how)
+-- What a run that read just the items f gives: it ends so, and has shown them and nothing else.
+pub record Just (e : Ending) (f : List Item) (r : Run) : Type 0 where
+  pub how : r .how ≡ e
   pub shown : r .state .shown ≡ shownOf f
 
 module _ (rules : Rules) (lists : Lists) (budget levels : ℕ) (below : List ℕ → State → Run) where
-  whole-again : (f : List Item) → Whole rules f → length f ≤ budget → (size : ℕ)
-      → Just f (tokensOf rules lists budget levels below size (length (flat f)) (flat f) start)
+  whole-again : (e : Ending) (f : List Item) → Whole rules e f → length f ≤ budget → (size : ℕ)
+      → Just e f (tokensOf rules lists budget levels below size (length (flat f)) (flat f) start)
   unfolding flat shownOf spelled
-  whole-again f (open-ended g v) h size =
+  whole-again e f (open-ended g v) h size =
       let more = length (flat f) - length f in
       let n : length (flat f) ≡ more + length f = let k = valid-fewer rules f v in omega arith in
-      let e = ap (λ (m : ℕ). tokensOf rules lists budget levels below size m (flat f) start) n
+      let same = ap (λ (m : ℕ). tokensOf rules lists budget levels below size m (flat f) start) n
       ∙ ap (λ (b : List ℕ). tokensOf rules lists budget levels below size (more + length f) b start) (sym (append-nil (flat f)))
       ∙ valid-again rules lists budget levels below size f v h more []
       ∙ ran-out rules lists budget levels below size more (stateOf rules f) in
-      subst (Just f) (sym e) (record { accepted = tt; shown = refl })
-  whole-again f (end-behind p g c k l v) h size =
+      subst (Just back f) (sym same) (record { how = refl; shown = refl })
+  whole-again e f (end-behind p g c k l v) h size =
       let bytes = flat g ++ operatorBytes p in
       let w = item-some rules g (bare p) (valid-fewer rules g v) (operator-some p) in
       let more = length bytes - suc (length g) in
       let n : length bytes ≡ suc more + length g = omega (arith, suc-add more (length g)) in
-      let e = ap (λ (m : ℕ). tokensOf rules lists budget levels below size m bytes start) n
+      let same = ap (λ (m : ℕ). tokensOf rules lists budget levels below size m bytes start) n
       ∙ ap (λ (b : List ℕ). tokensOf rules lists budget levels below size (suc more + length g) (flat g ++ b) start) (sym (append-nil (operatorBytes p)))
       ∙ valid-again rules lists budget levels below size g v (omega arith) (suc more) (operatorBytes p ++ [])
       ∙ end-again rules lists budget levels below size g p c k l h more in
-      subst (Just (bare p ∷ g)) (sym e) (record { accepted = tt; shown = refl })
+      subst (Just ended (bare p ∷ g)) (sym same) (record { how = refl; shown = refl })
 
 -- the bytes of the items, read as a charstring with any lists
-pub read-again : (rules : Rules) (lists : Lists) (budget : ℕ) (f : List Item) → Whole rules f
-    → length f ≤ budget → Just f (reading rules lists budget (flat f))
+pub read-again : (rules : Rules) (lists : Lists) (budget : ℕ) (e : Ending) (f : List Item) → Whole rules e f
+    → length f ≤ budget → Just e f (reading rules lists budget (flat f))
 unfolding reading read
-read-again rules lists budget f w h = go (rules .levels)
+read-again rules lists budget e f w h = go (rules .levels)
   where
-    go : (levels : ℕ) → Just f (read rules lists budget levels (flat f) start)
-    go zero = whole-again rules lists budget zero _ f w h (length (flat f))
-    go (suc levels) = whole-again rules lists budget (suc levels) _ f w h (length (flat f))
+    go : (levels : ℕ) → Just e f (read rules lists budget levels (flat f) start)
+    go zero = whole-again rules lists budget zero _ e f w h (length (flat f))
+    go (suc levels) = whole-again rules lists budget (suc levels) _ e f w h (length (flat f))

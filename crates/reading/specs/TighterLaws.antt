@@ -42,6 +42,7 @@ pub record Tighter (a b : Rules) : Type 0 where
   pub hints : a .hints ≤ b .hints
   pub exact : b .exact ≡ true → a .exact ≡ true
   pub clean : b .clean ≡ true → a .clean ≡ true
+  pub finished : b .finished ≡ true → a .finished ≡ true
   pub width : a .width ≡ b .width
   pub kind : (p : Operator) → a .kind p ≡ b .kind p
 
@@ -54,6 +55,7 @@ strict-tighter =
       hints = lit≤ tt;
       exact = λ e. refl;
       clean = λ e. refl;
+      finished = λ e. refl;
       width = refl;
       kind = λ p. refl;
     }

@@ -36,11 +36,11 @@ pub data Valid (rules : Rules) : List Item → Type 0 where
   mask-behind : (p : Operator) (m : List ℕ) (f : List Item) → Cuttable p → rules .kind p ≡ Mask → leftOver rules (leftBy rules f) ≡ false
       → atMask (leftBy rules f) .hints ≤ rules .hints → length m ≡ atMask (leftBy rules f) .mask → Valid rules f → Valid rules (masked p m ∷ f)
 
--- what an accepted run ends in: valid items, and perhaps an endchar behind them
-pub data Whole (rules : Rules) : List Item → Type 0 where
-  open-ended : (f : List Item) → Valid rules f → Whole rules f
+-- what a run leaves that came to its end, by how: valid items, or an endchar behind them
+pub data Whole (rules : Rules) : Ending → List Item → Type 0 where
+  open-ended : (f : List Item) → Valid rules f → Whole rules back f
   end-behind : (p : Operator) (f : List Item) → Cuttable p → rules .kind p ≡ End → length (leftBy rules f .operands) < 4 → Valid rules f
-      → Whole rules (bare p ∷ f)
+      → Whole rules ended (bare p ∷ f)
 
 -- each call struck out the operand that it took
 abbrev pub Taken : List Shown → Type 0
@@ -57,7 +57,7 @@ pub record Good (rules : Rules) (s : State) : Type 0 where
   pub taken : Taken (s .shown)
 
 pub record Ended (rules : Rules) (s : State) : Type 0 where
-  pub whole : Whole rules (struck (s .shown))
+  pub whole : Whole rules ended (struck (s .shown))
   pub taken : Taken (s .shown)
 
 abbrev pub Ends : Rules → Ending → State → Type 0

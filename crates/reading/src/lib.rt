@@ -55,6 +55,8 @@ pub struct Rules {
     pub exact: bool,
     // Whether no operand may wait at a mask whose length is fixed.
     pub clean: bool,
+    // Whether a charstring must end by endchar.
+    pub finished: bool,
     // How many bytes the count of a list has.
     pub width: Width,
 }
@@ -71,6 +73,7 @@ pub fn rules_of(profile: Profile) -> Rules
             ends: true,
             exact: false,
             clean: false,
+            finished: false,
             width: Width::Two,
         },
         Profile::Strict => Rules {
@@ -80,12 +83,13 @@ pub fn rules_of(profile: Profile) -> Rules
             ends: true,
             exact: true,
             clean: true,
+            finished: true,
             width: Width::Two,
         },
     }
 }
 
-// Why a run stopped: the refusals 3 to 12, and 15.
+// Why a charstring is refused: 3 to 12, 15, and 16, which no run stops with.
 pub enum Refusal {
     BudgetSpent,
     BytesLacking,
@@ -98,9 +102,10 @@ pub enum Refusal {
     TooManyHints,
     Composite,
     OperandsAtMask,
+    NoEndchar,
 }
 
-// The number of a run's refusal.
+// Its number.
 pub fn number_of(why: Refusal) -> u32
     ensures { λ r. ⌜ r ≡ numberOf why ⌝ }
 {
@@ -116,14 +121,15 @@ pub fn number_of(why: Refusal) -> u32
         Refusal::TooManyHints => 11,
         Refusal::Composite => 12,
         Refusal::OperandsAtMask => 15,
+        Refusal::NoEndchar => 16,
     }
 }
 
-// A run's refusal, with what comes with it.
+// A charstring's refusal, with what comes with it.
 pub enum Stopped {
     // 3 to 12, and the tokens.
     At(Refusal, u32),
-    // 15, which comes alone.
+    // 15 and 16, which come alone.
     Alone(Refusal),
 }
 
@@ -147,7 +153,7 @@ pub enum Flattened {
     BadGlobals(Flaw),
     // The local list is not well formed, and why.
     BadLocals(Flaw),
-    // The run was refused.
+    // The charstring is refused.
     Refused(Stopped),
     // The flat string has this length, which is more than the room; and the tokens.
     NoRoom(usize, u32),

@@ -6,14 +6,13 @@ use types.Run.{OneOf, miss}
 use denote.Enum.Declared.{tagOf}
 use Rattle.number.specs.Answer.{Values, Answer, accepted, refused, mapped, leaving, sized, into}
 use Rattle.number.specs.AnswerLaws.{into-refused}
-use Rattle.index.specs.Index.{part}
 use Rattle.index.specs.Formed.{formation, formed}
 use Rattle.index.specs.declared.list.Formed.{Formed}
 use Rattle.index.specs.declared.list.Formed.the-variants.{Yes, No}
 use Rattle.index.proofs.list.Formed as formed-type
 use Rattle.reading.specs.Rules.{rulesOf}
-use Rattle.reading.specs.Reading.{Run, original}
-use Rattle.font.specs.Font.{flatIn, allFrom, indexed, ifFormed, fontBy, flattenFont}
+use Rattle.font.specs.Font.{allFrom, indexed, ifFormed, fontBy, flattenFont}
+use Rattle.font.specs.Code.{glyphsOf}
 use Rattle.font.specs.WholeLaws.{shut-out, let-in, few-glyphs, font-two}
 use borrow.Author.Needs.{needs}
 use Rattle.font.proofs.flatten_font.Statement.{statement}
@@ -27,11 +26,10 @@ opened k x then (No f) h e = absurd (miss (0 ∷ []) 1 tt h)
 
 -- what the definition makes of the three
 module _ (c : tie.Start) where
-  abbrev run : List ℕ → Run
-  run cs = original (rulesOf (c .args .profile)) cs (c .args .globals .now) (c .args .locals .now) (c .args .budget)
-
   abbrev by-glyphs : ℕ → Answer (List ℕ)
-  by-glyphs n = indexed 2 (allFrom (λ i. flatIn (run (part 2 (c .args .charstrings .now) i))) 0 n)
+  by-glyphs n =
+      indexed 2
+      (allFrom (glyphsOf (c .args .profile) (c .args .charstrings .now) (c .args .globals .now) (c .args .locals .now) (c .args .budget)) 0 n)
 
   abbrev third : Answer (List ℕ)
   third = ifFormed 26 (formation 2 (c .args .charstrings .now)) by-glyphs

@@ -29,7 +29,7 @@ returns c =
     let args = c .before .before .before .before .before .before .before .before .before .before .before .args in
     subst
     (λ (x : Rules). let run = original x (args .cs .now) (args .globals .now) (args .locals .now) (args .budget) in
-    (flattened (drafted .result) ≡ verdict run) × Begins (drafted .last .1 .1 .1 .1 .1 .1 .0) (flatOf run))
+    (flattened (drafted .result) ≡ verdict x run) × Begins (drafted .last .1 .1 .1 .1 .1 .1 .0) (flatOf run))
     (rules-of .ensures) (drafted .ensures)
 
 pub draft-spec : {M : Type 1} → statement M

@@ -2,7 +2,7 @@ use Rattle.reading.specs.Rules.{meant}
 use Rattle.reading.specs.Reading.{original}
 use Rattle.reading.specs.BudgetLaws.{tokens-budget}
 use Rattle.charstring.specs.Run.{Done}
-use Rattle.charstring.specs.VerdictLaws.{ready, done, came-back, all-ended, was-stopped, few-tokens}
+use Rattle.charstring.specs.VerdictLaws.{ready, done, came-back, all-ended, unfinished, was-stopped, few-tokens}
 use borrow.Author.Needs.{needs}
 use Rattle.charstring.proofs.flattening.draft_by.Statement.{statement}
 use Rattle.charstring.proofs.flattening.draft_by.Tie as tie
@@ -54,7 +54,9 @@ same-length-2 : tie.Need-same-length-2
 same-length-2 c = search needs
 
 returns : tie.Need-returns
-returns c = let d = ran (c .before .before .before .before .before .before .before) in (came-back _ _ _ _ _ d (c .enum-told .given .1), d .bytes)
+returns c =
+    let d = ran (c .before .before .before .before .before .before .before .before) in
+    (unfinished _ _ _ _ _ d (c .before .enum-told .given .1) (c .if1 .taken), d .bytes)
 
 same-length-3 : tie.Need-same-length-3
 same-length-3 c = search needs
@@ -63,7 +65,9 @@ same-length-4 : tie.Need-same-length-4
 same-length-4 c = search needs
 
 returns-2 : tie.Need-returns-2
-returns-2 c = let d = ran (c .before .before .before .before .before .before .before) in (all-ended _ _ _ _ _ d (c .enum-told2 .given .1), d .bytes)
+returns-2 c =
+    let d = ran (c .before .before .before .before .before .before .before .before) in
+    (came-back _ _ _ _ _ d (c .before .enum-told .given .1) (c .if1 .left), d .bytes)
 
 same-length-5 : tie.Need-same-length-5
 same-length-5 c = search needs
@@ -72,7 +76,16 @@ same-length-6 : tie.Need-same-length-6
 same-length-6 c = search needs
 
 returns-3 : tie.Need-returns-3
-returns-3 c =
+returns-3 c = let d = ran (c .before .before .before .before .before .before .before) in (all-ended _ _ _ _ _ d (c .enum-told2 .given .1), d .bytes)
+
+same-length-7 : tie.Need-same-length-7
+same-length-7 c = search needs
+
+same-length-8 : tie.Need-same-length-8
+same-length-8 c = search needs
+
+returns-4 : tie.Need-returns-4
+returns-4 c =
     let d = ran (c .before .before .before .before .before .before .before .before .before) in
     (was-stopped _ _ _ _ _ d _ (c .before .before .how .given .1) _ (c .stopped-by .ensures), d .bytes)
 
@@ -84,15 +97,18 @@ draft-by-spec =
     at-start-requires
     run-requires
     enum-told
-    enum-told-2
-    enum-known-how
-    stopped-by-requires
     same-length
     same-length-2
     returns
+    enum-told-2
+    enum-known-how
+    stopped-by-requires
     same-length-3
     same-length-4
     returns-2
     same-length-5
     same-length-6
-    returns-3)
+    returns-3
+    same-length-7
+    same-length-8
+    returns-4)

@@ -45,7 +45,8 @@ locals-formed c = formed-by _ _ _ (c .check-list2 .result) (c .before .before .b
 -- both lists are well formed
 both : (c : tie.At-match2-keys2)
     → let args = c .before .before .before .before .before .before .before .before .before .before .args in
-    let then = outcome (args .out .now) (original (rulesOf (args .profile)) (args .cs .now) (args .globals .now) (args .locals .now) (args .budget)) in
+    let rules = rulesOf (args .profile) in
+    let then = outcome rules (args .out .now) (original rules (args .cs .now) (args .globals .now) (args .locals .now) (args .budget)) in
     then ≡ flattening (rulesOf (args .profile)) (args .cs .now) (args .globals .now) (args .locals .now) (args .budget) (args .out .now)
 unfolding flattening
 both c =

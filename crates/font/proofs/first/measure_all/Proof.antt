@@ -6,7 +6,7 @@ use native.Mathlib.Omega.{arith}
 use lib.ListN.{length}
 use Rattle.number.specs.Answer.{Answer}
 use Rattle.index.specs.Index.{part}
-use Rattle.reading.specs.Rules.{rulesOf}
+use Rattle.reading.specs.Rules.{Rules, rulesOf}
 use Rattle.reading.specs.Reading.{Run, original}
 use Rattle.reading.specs.Answers.{flatOf, flattened, verdict}
 use Rattle.reading.specs.SameGlyphLaws.{part-bytes}
@@ -41,20 +41,23 @@ module _ (c : tie.After-draft Inv-loop μ-loop) where
   glyph =
       glyphsOf (start .args .profile) (start .args .charstrings .now) (start .args .globals .now) (start .args .locals .now) (start .args .budget)
 
+  abbrev rules : Rules
+  rules = rulesOf (start .args .profile)
+
   abbrev run : Run
   run =
-      original (rulesOf (start .args .profile)) (part 2 (start .args .charstrings .now) (turn .loop .i)) (start .args .globals .now)
+      original rules (part 2 (start .args .charstrings .now) (turn .loop .i)) (start .args .globals .now)
       (start .args .locals .now) (start .args .budget)
 
   -- as much of its flat string as there was room for
   abbrev put : List ℕ
   put = c .draft .last .1 .1 .1 .1 .1 .0
 
-  drafted : (flattened (c .draft .result) ≡ verdict run) × Begins put (flatOf run)
+  drafted : (flattened (c .draft .result) ≡ verdict rules run) × Begins put (flatOf run)
   drafted =
       subst
-      (λ (b : List ℕ). let x = original (rulesOf (start .args .profile)) b (start .args .globals .now) (start .args .locals .now) (start .args .budget) in
-      (flattened (c .draft .result) ≡ verdict x) × Begins put (flatOf x))
+      (λ (b : List ℕ). let x = original rules b (start .args .globals .now) (start .args .locals .now) (start .args .budget) in
+      (flattened (c .draft .result) ≡ verdict rules x) × Begins put (flatOf x))
       (part-here _ (start .args .charstrings .now) (turn .loop .i) _ (c .before .before .before .entry-part .ensures)) (c .draft .ensures)
 
   inside : Reached (turn .loop .sum) (length (turn .loop .joined)) (c .before .before .reached .result)
@@ -70,8 +73,8 @@ module _ (c : tie.After-known-told Inv-loop μ-loop) where
   abbrev at-draft : tie.After-draft Inv-loop μ-loop
   at-draft = c .before .before .before .before .before
 
-  flat : Flat (run at-draft) (c .before .verdict .given .0 .0)
-  flat = verdict-flat (run at-draft) _ _ (ap flattened (sym (c .before .verdict .given .1)) ∙ drafted at-draft .0)
+  flat : Flat (rules at-draft) (run at-draft) (c .before .verdict .given .0 .0)
+  flat = verdict-flat (rules at-draft) (run at-draft) _ _ (ap flattened (sym (c .before .verdict .given .1)) ∙ drafted at-draft .0)
 
   bound : c .before .verdict .given .0 .0 ≤ 35205846917115
   bound =
@@ -111,7 +114,7 @@ enum-known-verdict c = search needs
 stopped-requires : tie.Need-stopped-requires Inv-loop μ-loop
 stopped-requires c κs =
     let at-draft = c .before .before .before in
-    of-run (at-draft .draft .result) (run at-draft) (c .match .keys2) (drafted at-draft .0)
+    of-run (at-draft .draft .result) (rules at-draft) (run at-draft) (c .match .keys2) (drafted at-draft .0)
 
 same-length : tie.Need-same-length Inv-loop μ-loop
 same-length c = turn (c .before .before .before .before) .loop .inv .1
@@ -123,7 +126,8 @@ returns : tie.Need-returns Inv-loop μ-loop
 returns c =
     let at-draft = c .before .before .before .before in
     let l = turn at-draft .loop in
-    told-stopped (glyph at-draft) (l .i) _ _ _ _ (run at-draft) (c .stopped .result) (omega arith) (l .inv .4) refl (drafted at-draft .0) (c .stopped .ensures)
+    told-stopped (glyph at-draft) (l .i) _ _ _ _ _ (run at-draft) (c .stopped .result) (omega arith) (l .inv .4) refl (drafted at-draft .0)
+    (c .stopped .ensures)
 
 add-sum : tie.Need-add-sum Inv-loop μ-loop
 add-sum c = let l = turn (at-draft c) .loop in omega (arith, bound c, l .inv .3, l .inv .0)

@@ -1,7 +1,7 @@
 -- `font::second::put_run` meets its contract. Assumes nothing.
 use mathlib.Core.Path.{sym, ap, subst, _∙_}
 use native.Mathlib.Omega.{arith}
-use Rattle.reading.specs.Rules.{rulesOf}
+use Rattle.reading.specs.Rules.{Rules, rulesOf}
 use Rattle.reading.specs.Reading.{Run, original}
 use Rattle.reading.specs.Answers.{flattened}
 use Rattle.charstring.specs.Run.{Begins}
@@ -17,13 +17,18 @@ module _ (c : tie.After-draft) where
   abbrev start : tie.Start
   start = c .before .before .before .before .before .before
 
-  abbrev run : Run
-  run = original (rulesOf (start .args .profile)) (start .args .glyph .now) (start .args .globals .now) (start .args .locals .now) (start .args .budget)
+  abbrev rules : Rules
+  rules = rulesOf (start .args .profile)
 
-told : (c : tie.After-known-told) → Flat (run (c .before .before .before .before .before)) (c .before .n .given .0 .0)
+  abbrev run : Run
+  run = original rules (start .args .glyph .now) (start .args .globals .now) (start .args .locals .now) (start .args .budget)
+
+told : (c : tie.After-known-told)
+    → let at-draft = c .before .before .before .before .before in
+    Flat (rules at-draft) (run at-draft) (c .before .n .given .0 .0)
 told c =
     let at-draft = c .before .before .before .before .before in
-    verdict-flat (run at-draft) _ _ (ap flattened (sym (c .before .n .given .1)) ∙ at-draft .draft .ensures .0)
+    verdict-flat (rules at-draft) (run at-draft) _ _ (ap flattened (sym (c .before .n .given .1)) ∙ at-draft .draft .ensures .0)
 
 sub-draft : tie.Need-sub-draft
 sub-draft c = search needs
@@ -46,7 +51,8 @@ same-length c = search needs
 returns : tie.Need-returns
 returns c =
     let at-draft = c .before .before .before in
-    absurd (not-accepted (at-draft .draft .result) (c .match .keys2) _ (at-draft .draft .ensures .0 ∙ is-flat (run at-draft) (start at-draft .pre .is)))
+    let is = is-flat (rules at-draft) (run at-draft) (start at-draft .pre .is) in
+    absurd (not-accepted (at-draft .draft .result) (c .match .keys2) _ (at-draft .draft .ensures .0 ∙ is))
 
 cast-result : tie.Need-cast-result
 cast-result c = let f = told c in omega (arith, f .long, start (c .before .before .before .before .before) .pre .small)
