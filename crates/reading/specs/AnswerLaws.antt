@@ -140,8 +140,8 @@ gate-other j out (accepted n) y k v h q = q
 gate-other j out (refused i u) y k v h q = let same : j ≡ k = cc in absurd (h (sym same))
 
 pub run-stopped : (rules : Rules) (cs globals locals : List ℕ) (budget : ℕ) (out : List ℕ) (k : ℕ) (v : Values)
-    → (k ≡ 1 → ⊥) → (k ≡ 2 → ⊥) → (k ≡ 13 → ⊥) → (k ≡ 16 → ⊥) → flattening rules cs globals locals budget out .answer ≡ refused k v
-    → original rules cs globals locals budget .how ≡ stopped k
+    → (k ≡ 1 → ⊥) → (k ≡ 2 → ⊥) → (k ≡ 13 → ⊥) → (k ≡ 16 → ⊥)
+    → flattening rules cs globals locals budget out .answer ≡ refused k v → original rules cs globals locals budget .how ≡ stopped k
 unfolding flattening outcome
 run-stopped rules cs globals locals budget out k v one two room end q =
     let r = original rules cs globals locals budget in
