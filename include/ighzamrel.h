@@ -51,6 +51,7 @@ enum ighzamrel_answer {
     IGHZAMREL_COMPOSITE = 12,         /* endchar has four operands or more, for a glyph made of two others */
     IGHZAMREL_SHORT = 13,             /* the result is longer than the room for it */
     IGHZAMREL_OPERANDS_AT_MASK = 15,  /* operands wait at a mask whose length is fixed, in strict */
+    IGHZAMREL_NO_ENDCHAR = 16,        /* the charstring comes to its end without endchar, in strict */
     IGHZAMREL_OUTSIDE_16_BITS = 17,   /* an integer to be written into a charstring is outside 16 bits */
     IGHZAMREL_INDEX_LACKING = 20,     /* an INDEX lacks bytes */
     IGHZAMREL_OFFSET_SIZE = 21,       /* the offset size of an INDEX is not 1 to 4 */
@@ -72,7 +73,8 @@ enum ighzamrel_kind {
 
 /*
  * The rules to run by, `profile`. What is not 0 is taken as strict: Technical Note 5177's limits, an index that is exactly
- * whole, and no operands at a mask once an earlier one has fixed its length. Where strict accepts, plain gives the same.
+ * whole, no operands at a mask once an earlier one has fixed its length, and an end by endchar, its own or a
+ * subroutine's. Where strict accepts, plain gives the same.
  */
 enum ighzamrel_profile {
     IGHZAMREL_PLAIN = 0,
@@ -143,7 +145,7 @@ uint32_t ighzamrel_write_index(const uint32_t *lengths, size_t lengths_len, cons
  * INDEXes, 00 00 where a font has none; `budget` is how many tokens may be run, through every call.
  * 0: *length, how many bytes the flat string has, and *tokens, how many tokens were run. 1 or 2: *reason, what
  * ighzamrel_check_list answers for that list, and at 40, 41 and 42 its *entry. 3 to 12: *tokens, with the token that
- * is refused but at 3. 15: no place. 13: *length, how many bytes are needed, and *tokens.
+ * is refused but at 3. 15 or 16: no place. 13: *length, how many bytes are needed, and *tokens.
  */
 uint32_t ighzamrel_flatten(const uint8_t *charstring, size_t charstring_len, const uint8_t *globals,
                            size_t globals_len, const uint8_t *locals, size_t locals_len, uint32_t profile,
@@ -180,7 +182,7 @@ static inline uint32_t ighzamrel_flatten_into(const uint8_t *charstring, size_t 
  * ighzamrel_write_index would. `charstrings` is the CharStrings INDEX. Each glyph of it is flattened as
  * ighzamrel_flatten would do it with enough room, under the whole budget. The answer is the first of these that holds.
  * 1, 2, 26, where `globals`, `locals`, `charstrings` is not well formed: *reason and *entry, as ighzamrel_flatten at 1
- * and 2. 3 to 12 or 15, of the first glyph that is refused: *glyph, its number, counted from 0, and but at 15 its
+ * and 2. 3 to 12, 15 or 16, of the first glyph that is refused: *glyph, its number, counted from 0, and at 3 to 12 its
  * *tokens. 23, of the INDEX to be written: no place. 13: *length, how many bytes that needs. 0: *length, how many it has.
  */
 uint32_t ighzamrel_flatten_font(const uint8_t *charstrings, size_t charstrings_len, const uint8_t *globals,

@@ -77,6 +77,7 @@ refusals! {
     12 Composite [Glyph Tokens] "endchar has four operands or more, for a glyph made of two others" (", at token ")
     13 Short [Length Tokens] "the result is longer than the room for it"
     15 OperandsAtMask [Glyph] "operands wait at a mask whose length is fixed, in strict"
+    16 NoEndchar [Glyph] "the charstring comes to its end without endchar, in strict"
     17 Outside16Bits [] "an integer to be written into a charstring is outside 16 bits"
     20 IndexLacking [] "an INDEX lacks bytes" {"bytes end too soon"}
     21 OffsetSize [] "the offset size of an INDEX is not 1 to 4" {"offset size is not 1 to 4"}
