@@ -20,6 +20,7 @@ static const char *in_words(uint32_t answer)
     case IGHZAMREL_BUDGET_SPENT: return "the glyph takes more tokens than it may";
     case IGHZAMREL_NO_ENTRY: return "the glyph calls a subroutine that the font does not have";
     case IGHZAMREL_OPERANDS_AT_MASK: return "the glyph has operands at a hint mask that takes none";
+    case IGHZAMREL_NO_ENDCHAR: return "the glyph comes to its end without endchar";
     case IGHZAMREL_SHORT: return "the result is longer than the room for it";
     case IGHZAMREL_BAD_CHARSTRINGS: return "the font's list of glyphs is damaged";
     default: return "the glyph's charstring is damaged or not supported";
@@ -38,7 +39,7 @@ static void explain_list(uint32_t reason, uint32_t entry)
     }
 }
 
-/* 1 and 2 come with a reason, 3 to 13 with the tokens, and 15 with neither. */
+/* 1 and 2 come with a reason, 3 to 13 with the tokens, and 15 and 16 with neither. */
 static void explain(const ighzamrel_flattening *flat)
 {
     printf("refused with %u", (unsigned)flat->answer);
@@ -47,7 +48,7 @@ static void explain(const ighzamrel_flattening *flat)
         explain_list(flat->reason, flat->entry);
         return;
     }
-    if (flat->answer != IGHZAMREL_OPERANDS_AT_MASK)
+    if (flat->answer <= IGHZAMREL_SHORT)
         printf(" after %u tokens", (unsigned)flat->tokens);
     printf(": %s\n", in_words(flat->answer));
 }
@@ -77,12 +78,12 @@ static void show(uint32_t profile, const uint8_t *charstring, size_t charstring_
     show_bytes(out, flat.length);
 }
 
-/* 1, 2 and 26 come with a reason, 3 to 12 and 15 with the first glyph that is refused. */
+/* 1, 2 and 26 come with a reason, 3 to 12, 15 and 16 with the first glyph that is refused. */
 static void explain_font(const ighzamrel_font_flattening *flat)
 {
     printf("the font is refused with %u", (unsigned)flat->answer);
     if ((flat->answer >= IGHZAMREL_BUDGET_SPENT && flat->answer <= IGHZAMREL_COMPOSITE) ||
-        flat->answer == IGHZAMREL_OPERANDS_AT_MASK)
+        flat->answer == IGHZAMREL_OPERANDS_AT_MASK || flat->answer == IGHZAMREL_NO_ENDCHAR)
         printf(" at glyph %u", (unsigned)flat->glyph);
     printf(": %s", in_words(flat->answer));
     if (flat->reason == 0) {
@@ -133,6 +134,9 @@ int main(void)
     static const uint8_t masks[] = {0x8B, 0x8C, 0x01, 0x13, 0x80, 0x8B, 0x13, 0x80, 0x0E};
     static const uint8_t masked[] = {0x00, 0x02, 0x01, 0x01, 0x02, 0x0B, 0x0E, 0x8B,
                                      0x8C, 0x01, 0x13, 0x80, 0x8B, 0x13, 0x80, 0x0E};
+    /* 1 2 rmoveto, and no endchar; and a font with that as its first glyph */
+    static const uint8_t unfinished[] = {0x8C, 0x8D, 0x15};
+    static const uint8_t unfinished_font[] = {0x00, 0x02, 0x01, 0x01, 0x04, 0x05, 0x8C, 0x8D, 0x15, 0x0E};
     show(IGHZAMREL_PLAIN, charstring, sizeof charstring, locals, sizeof locals);
     show(IGHZAMREL_PLAIN, charstring, sizeof charstring, no_list, sizeof no_list);
     show(IGHZAMREL_PLAIN, charstring, sizeof charstring, damaged, sizeof damaged);
@@ -144,5 +148,8 @@ int main(void)
     show(IGHZAMREL_PLAIN, masks, sizeof masks, no_list, sizeof no_list);
     show(IGHZAMREL_STRICT, masks, sizeof masks, no_list, sizeof no_list);
     show_font(IGHZAMREL_STRICT, masked, sizeof masked, no_list, sizeof no_list);
+    show(IGHZAMREL_PLAIN, unfinished, sizeof unfinished, no_list, sizeof no_list);
+    show(IGHZAMREL_STRICT, unfinished, sizeof unfinished, no_list, sizeof no_list);
+    show_font(IGHZAMREL_STRICT, unfinished_font, sizeof unfinished_font, no_list, sizeof no_list);
     return 0;
 }

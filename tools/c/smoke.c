@@ -287,6 +287,44 @@ static void masks(void)
     rows_hold(rows, sizeof rows / sizeof rows[0]);
 }
 
+/*
+ * An end without endchar: plain accepts it, and strict refuses it with 16, after every refusal of the run and before 13, and
+ * sets no place.
+ */
+static void ends(void)
+{
+    static const uint8_t path[] = {0x8C, 0x8D, 0x15};
+    static const uint8_t returned[] = {0x8C, 0x8D, 0x15, 0x0B, 0x0E};
+    /* three entries: endchar; a call of that one; and an end that only goes back */
+    static const uint8_t entries[] = {0x00, 0x03, 0x01, 0x01, 0x02, 0x04, 0x06, 0x0E, 0x20, 0x0A, 0x8C, 0x16};
+    static const uint8_t ended[] = {0x0E};
+    static const uint8_t went_back[] = {0x8C, 0x16, 0x0E};
+    /* a mask's byte that looks like endchar */
+    static const uint8_t mask[] = {0x8B, 0x8C, 0x13, 0x0E};
+    const struct row rows[] = {
+        {path, sizeof path, EMPTY, 2, {0, 1000, ROOM}, 0, 3, 3, path},
+        {path, sizeof path, EMPTY, 2, {1, 1000, ROOM}, 16, UNTOUCHED, UNTOUCHED, NULL},
+        {path, sizeof path, EMPTY, 2, {0, 3, 2}, 13, 3, 3, NULL},
+        {path, sizeof path, EMPTY, 2, {1, 3, 2}, 16, UNTOUCHED, UNTOUCHED, NULL},
+        {path, sizeof path, EMPTY, 2, {1, 2, ROOM}, 3, UNTOUCHED, 2, NULL},
+        {NONE, EMPTY, 2, {1, 0, ROOM}, 16, UNTOUCHED, UNTOUCHED, NULL},
+        {NONE, EMPTY, 2, {1, 0, 0}, 16, UNTOUCHED, UNTOUCHED, NULL},
+        {BYTES(0x8B), EMPTY, 2, {1, 1, 0}, 16, UNTOUCHED, UNTOUCHED, NULL},
+        {returned, sizeof returned, EMPTY, 2, {0, 1000, ROOM}, 0, 3, 4, path},
+        {returned, sizeof returned, EMPTY, 2, {1, 1000, ROOM}, 16, UNTOUCHED, UNTOUCHED, NULL},
+        {mask, sizeof mask, EMPTY, 2, {0, 1000, ROOM}, 0, 4, 3, mask},
+        {mask, sizeof mask, EMPTY, 2, {1, 1000, ROOM}, 16, UNTOUCHED, UNTOUCHED, NULL},
+        {BYTES(0x8C, 0x00), EMPTY, 2, {1, 1000, ROOM}, 6, UNTOUCHED, 2, NULL},
+        {BYTES(0x8B, 0x8B, 0x8B, 0x8B, 0x0E), EMPTY, 2, {1, 1000, ROOM}, 12, UNTOUCHED, 5, NULL},
+        {BYTES(0x20, 0x0A), entries, sizeof entries, {1, 1000, ROOM}, 0, 1, 3, ended},
+        {BYTES(0x21, 0x0A, 0x00), entries, sizeof entries, {1, 1000, ROOM}, 0, 1, 5, ended},
+        {BYTES(0x22, 0x0A), entries, sizeof entries, {1, 1000, ROOM}, 16, UNTOUCHED, UNTOUCHED, NULL},
+        {BYTES(0x22, 0x0A, 0x0E), entries, sizeof entries, {1, 1000, ROOM}, 0, 3, 5, went_back},
+        {BYTES(0x20, 0x0A), L, 9, {1, 1000, ROOM}, 16, UNTOUCHED, UNTOUCHED, NULL},
+    };
+    rows_hold(rows, sizeof rows / sizeof rows[0]);
+}
+
 /* The three INDEXes of a font: CharStrings, globals and locals. */
 struct font {
     const uint8_t *charstrings;
@@ -335,13 +373,20 @@ static void fonts(void)
     /* three glyphs: -107 callsubr endchar, no bytes, and 5 endchar with the 5 in three bytes */
     static const uint8_t three[] = {0x00, 0x03, 0x01, 0x01, 0x04, 0x04, 0x08, 0x20, 0x0A, 0x0E, 0x1C, 0x00, 0x05, 0x0E};
     static const uint8_t three_flat[] = {0x00, 0x03, 0x01, 0x01, 0x05, 0x05, 0x07, 0x8C, 0x8D, 0x15, 0x0E, 0x90, 0x0E};
+    /* the same without the one that has no bytes, for which strict refuses it: 16 comes with the glyph alone */
+    static const uint8_t two[] = {0x00, 0x02, 0x01, 0x01, 0x04, 0x08, 0x20, 0x0A, 0x0E, 0x1C, 0x00, 0x05, 0x0E};
+    static const uint8_t two_flat[] = {0x00, 0x02, 0x01, 0x01, 0x05, 0x07, 0x8C, 0x8D, 0x15, 0x0E, 0x90, 0x0E};
     /* endchar, -106 callsubr, and a byte that is no operator: the second is the first that is refused */
     static const uint8_t refused[] = {0x00, 0x03, 0x01, 0x01, 0x02, 0x04, 0x05, 0x0E, 0x21, 0x0A, 0x00};
     /* endchar, and an operand that waits at a second mask: 15 comes with the glyph alone */
     static const uint8_t waiting[] = {0x00, 0x02, 0x01, 0x01, 0x02, 0x0B, 0x0E, 0x8B, 0x8C, 0x01, 0x13, 0x80, 0x8B, 0x14, 0x80, 0x0E};
     const struct font_row rows[] = {
         {three, sizeof three, {0, 1000, ROOM}, 0, 13, UNTOUCHED, UNTOUCHED, three_flat},
-        {three, sizeof three, {1, 7, 13}, 0, 13, UNTOUCHED, UNTOUCHED, three_flat},
+        {two, sizeof two, {1, 7, 12}, 0, 12, UNTOUCHED, UNTOUCHED, two_flat},
+        {two, sizeof two, {1, 7, 11}, 13, 12, UNTOUCHED, UNTOUCHED, NULL},
+        {three, sizeof three, {1, 7, 13}, 16, UNTOUCHED, 1, UNTOUCHED, NULL},
+        {three, sizeof three, {1, 7, 0}, 16, UNTOUCHED, 1, UNTOUCHED, NULL},
+        {three, sizeof three, {1, 6, 13}, 3, UNTOUCHED, 0, 6, NULL},
         {three, sizeof three, {0, 7, 12}, 13, 13, UNTOUCHED, UNTOUCHED, NULL},
         {three, sizeof three, {0, 7, 0}, 13, 13, UNTOUCHED, UNTOUCHED, NULL},
         {three, sizeof three, {0, 6, ROOM}, 3, UNTOUCHED, 0, 6, NULL},
@@ -417,6 +462,7 @@ int main(void)
     indexes();
     flattening();
     masks();
+    ends();
     fonts();
     bad_lists();
     printf("smoke: eleven functions, %u checks hold\n", checks);

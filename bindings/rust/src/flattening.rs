@@ -30,8 +30,8 @@ pub struct FlatVec {
 ///
 /// Refused with one of [`Refusal::BadGlobals`](crate::Refusal::BadGlobals) to
 /// [`Refusal::Short`](crate::Refusal::Short), or in strict with
-/// [`Refusal::OperandsAtMask`](crate::Refusal::OperandsAtMask). A list that is not well formed comes with what
-/// [`check_list`](crate::check_list) says of it:
+/// [`Refusal::OperandsAtMask`](crate::Refusal::OperandsAtMask) or [`Refusal::NoEndchar`](crate::Refusal::NoEndchar). A
+/// list that is not well formed comes with what [`check_list`](crate::check_list) says of it:
 ///
 /// ```
 /// use ighzamrel::{flatten, Profile, Refusal, EMPTY_INDEX};

@@ -16,8 +16,8 @@ use crate::Profile;
 /// Refused, in this order, with [`Refusal::BadGlobals`](crate::Refusal::BadGlobals),
 /// [`Refusal::BadLocals`](crate::Refusal::BadLocals) or [`Refusal::BadCharstrings`](crate::Refusal::BadCharstrings); as
 /// the first glyph that is refused, with its number and its tokens, of which
-/// [`Refusal::OperandsAtMask`](crate::Refusal::OperandsAtMask) has none; with
-/// [`Refusal::TooLong`](crate::Refusal::TooLong), where the last offset would pass 4294967295; or with
+/// [`Refusal::OperandsAtMask`](crate::Refusal::OperandsAtMask) and [`Refusal::NoEndchar`](crate::Refusal::NoEndchar) have
+/// none; with [`Refusal::TooLong`](crate::Refusal::TooLong), where the last offset would pass 4294967295; or with
 /// [`Refusal::Short`](crate::Refusal::Short):
 ///
 /// ```

@@ -53,17 +53,24 @@ pub use refusal::{NoRefusal, Refusal, Refused};
 ///
 /// ```
 /// use ighzamrel::{flatten, Profile, Refusal, EMPTY_INDEX};
+/// let by = |profile, charstring: &[u8]| {
+///     flatten(charstring, EMPTY_INDEX, EMPTY_INDEX, profile, 100, &mut [0; 16])
+/// };
 /// // 0 1 hstem, hintmask with one byte, and then a 0 that waits at the next hintmask
-/// let charstring = [0x8B, 0x8C, 0x01, 0x13, 0x80, 0x8B, 0x13, 0x80, 0x0E];
-/// let by = |profile| flatten(&charstring, EMPTY_INDEX, EMPTY_INDEX, profile, 100, &mut [0; 16]);
-///
-/// assert_eq!(by(Profile::Plain)?.length, charstring.len());
-/// let refused = by(Profile::Strict).unwrap_err();
+/// let masks = [0x8B, 0x8C, 0x01, 0x13, 0x80, 0x8B, 0x13, 0x80, 0x0E];
+/// assert_eq!(by(Profile::Plain, &masks)?.length, masks.len());
+/// let refused = by(Profile::Strict, &masks).unwrap_err();
 /// assert_eq!((refused.refusal, refused.tokens), (Refusal::OperandsAtMask, None));
 /// assert_eq!(
 ///     refused.to_string(),
 ///     "refusal 15: operands wait at a mask whose length is fixed, in strict"
 /// );
+///
+/// // 1 2 rmoveto, and no endchar
+/// let unfinished = [0x8C, 0x8D, 0x15];
+/// assert_eq!(by(Profile::Plain, &unfinished)?.length, unfinished.len());
+/// let refused = by(Profile::Strict, &unfinished).unwrap_err();
+/// assert_eq!((refused.refusal, refused.tokens), (Refusal::NoEndchar, None));
 /// # Ok::<(), ighzamrel::Refused>(())
 /// ```
 #[derive(Clone, Copy, Debug, Default, PartialEq, Eq, Hash)]
@@ -71,8 +78,8 @@ pub enum Profile {
     /// What the Rust crate subsetter does: calls 64 strings deep, 65,535 hints, an index by 32-bit floats.
     #[default]
     Plain,
-    /// Adobe's Technical Note 5177: calls 11 strings deep, 96 hints, an index that is exactly whole, and no operands at a
-    /// mask once an earlier one has fixed its length.
+    /// Adobe's Technical Note 5177: calls 11 strings deep, 96 hints, an index that is exactly whole, no operands at a mask
+    /// once an earlier one has fixed its length, and an end by `endchar`, its own or a subroutine's.
     Strict,
 }
 

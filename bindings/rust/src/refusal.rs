@@ -189,7 +189,7 @@ pub struct Refused {
     pub glyph: Option<u32>,
     /// In flattening, how many tokens were run, the refused one among them but at [`Refusal::BudgetSpent`]; of a whole
     /// font, those of the refused glyph. None where a list is not well formed, for then nothing was run, and with
-    /// [`Refusal::OperandsAtMask`], which comes without them.
+    /// [`Refusal::OperandsAtMask`] and [`Refusal::NoEndchar`], which come without them.
     pub tokens: Option<u32>,
     /// Where a list is not well formed for want of an entry, the number of the first that it has not.
     pub entry: Option<u32>,

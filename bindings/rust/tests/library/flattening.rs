@@ -252,6 +252,76 @@ fn operands_at_a_mask_that_fixes_the_length_are_stems() {
     }
 }
 
+/// Each charstring with its local list, which plain accepts, and strict refuses for want of endchar.
+pub const UNFINISHED: [(Bytes, Bytes); 8] = [
+    (&[], EMPTY_INDEX),
+    (&[0x8B], EMPTY_INDEX),
+    (&[0x8C, 0x8D, 0x15], EMPTY_INDEX),
+    // a return of the charstring itself, before an endchar
+    (&[0x0B], EMPTY_INDEX),
+    (&[0x8C, 0x8D, 0x15, 0x0B, 0x0E], EMPTY_INDEX),
+    // a mask's byte that looks like endchar
+    (&[0x8B, 0x8C, 0x13, 0x0E], EMPTY_INDEX),
+    // a subroutine that returns, and one that runs out
+    (&[0x20, 0x0A], L),
+    (
+        &[0x20, 0x0A, 0x0B],
+        &[0x00, 0x01, 0x01, 0x01, 0x03, 0x8C, 0x16],
+    ),
+];
+
+#[test]
+fn an_end_without_endchar_is_refused_in_strict() {
+    for (charstring, locals) in UNFINISHED {
+        let refused = alone(Refusal::NoEndchar);
+        both_refuse(charstring, locals, Strict, ROOM, refused);
+        // before the want of room, and after the budget
+        both_refuse(charstring, locals, Strict, 0, refused);
+        let vec = |profile, budget| {
+            flatten_to_vec(charstring, EMPTY_INDEX, locals, profile, budget, ROOM)
+        };
+        let tokens = vec(Plain, AMPLE).unwrap().tokens;
+        assert_eq!(vec(Strict, tokens), Err(refused), "{charstring:02X?}");
+        for budget in 0..tokens {
+            assert_eq!(vec(Strict, budget), Err(run(Refusal::BudgetSpent, budget)));
+        }
+    }
+}
+
+#[test]
+fn what_a_run_is_refused_for_comes_before_its_end() {
+    for (charstring, refusal, tokens) in [
+        (&[0x8C, 0x00][..], Refusal::Unknown, 2),
+        (&[0x8C, 0x1C], Refusal::BytesLacking, 2),
+        (&[0x8B, 0x8B, 0x8B, 0x8B, 0x0E], Refusal::Composite, 5),
+    ] {
+        both_refuse(charstring, EMPTY_INDEX, Strict, 0, run(refusal, tokens));
+    }
+    let (waiting, _) = AT_MASK[0];
+    let refused = alone(Refusal::OperandsAtMask);
+    both_refuse(&waiting[..8], EMPTY_INDEX, Strict, 0, refused);
+}
+
+/// Each charstring, its flat string and the tokens. The entries are endchar, a call of that one, and 1 hmoveto.
+#[test]
+fn any_endchar_is_an_end() {
+    let locals = [
+        0x00, 0x03, 0x01, 0x01, 0x02, 0x04, 0x06, 0x0E, 0x20, 0x0A, 0x8C, 0x16,
+    ];
+    let rows: [(Bytes, Bytes, u32); 5] = [
+        (&[0x0E, 0x00], &[0x0E], 1),
+        (&[0x20, 0x0A], &[0x0E], 3),
+        (&[0x20, 0x0A, 0x0B], &[0x0E], 3),
+        (&[0x21, 0x0A, 0x00], &[0x0E], 5),
+        (&[0x22, 0x0A, 0x0E], &[0x8C, 0x16, 0x0E], 5),
+    ];
+    for (charstring, flat, tokens) in rows {
+        let bytes = flat.to_vec();
+        let answer = flatten_to_vec(charstring, EMPTY_INDEX, &locals, Strict, tokens, ROOM);
+        assert_eq!(answer, Ok(FlatVec { bytes, tokens }), "{charstring:02X?}");
+    }
+}
+
 /// Forty subroutines of which each calls the next twice: the last would run 549,755,813,888 times.
 #[test]
 fn the_budget_ends_what_would_not_end() {

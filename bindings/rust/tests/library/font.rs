@@ -135,6 +135,7 @@ fn refused_glyphs_are_counted() {
     assert_eq!(plain(&plain_font()).counts, counts(9, 4, 5));
     refused_in_strict(GLYPHS[2], Refusal::Unknown, Some(1), 9);
     refused_in_strict(AT_MASK, Refusal::OperandsAtMask, None, 8);
+    refused_in_strict(&[0x8C, 0x16], Refusal::NoEndchar, None, 8);
 }
 
 /// Two glyphs are flattened, and this third one is refused so; `all` are the tokens that are counted.

@@ -49,13 +49,17 @@ fn texts_tell_the_glyph_of_a_font() {
         refused.to_string(),
         "refusal 9: glyph 12: a call names a subroutine that is not there, at token 3"
     );
-    let without_tokens = Refused {
+    let without_tokens = |refusal| Refused {
         glyph: Some(12),
-        ..alone(Refusal::OperandsAtMask)
+        ..alone(refusal)
     };
     assert_eq!(
-        without_tokens.to_string(),
+        without_tokens(Refusal::OperandsAtMask).to_string(),
         "refusal 15: glyph 12: operands wait at a mask whose length is fixed, in strict"
+    );
+    assert_eq!(
+        without_tokens(Refusal::NoEndchar).to_string(),
+        "refusal 16: glyph 12: the charstring comes to its end without endchar, in strict"
     );
 }
 

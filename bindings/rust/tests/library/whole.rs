@@ -1,6 +1,6 @@
 //! A whole font: the rows of one charstring as its glyphs.
 
-use crate::flattening::{ACCEPTED, AMPLE, AT_MASK, L, REFUSED};
+use crate::flattening::{Bytes, ACCEPTED, AMPLE, AT_MASK, L, REFUSED, UNFINISHED};
 use crate::{alone, index, lent, refuses, short, writes, BAD_LISTS, BLANK};
 use ighzamrel::Profile::{Plain, Strict};
 use ighzamrel::*;
@@ -8,8 +8,8 @@ use ighzamrel::*;
 const ROOM: usize = 1000;
 
 /// Three glyphs that L serves, their flat strings, and the most tokens that one of them takes.
-const GLYPHS: [&[u8]; 3] = [&[0x20, 0x0A, 0x0E], &[], &[0x1C, 0x00, 0x05, 0x0E]];
-const FLAT: [&[u8]; 3] = [&[0x8C, 0x8D, 0x15, 0x0E], &[], &[0x90, 0x0E]];
+const GLYPHS: [Bytes; 3] = [&[0x20, 0x0A, 0x0E], &[], &[0x1C, 0x00, 0x05, 0x0E]];
+const FLAT: [Bytes; 3] = [&[0x8C, 0x8D, 0x15, 0x0E], &[], &[0x90, 0x0E]];
 const MOST: u32 = 7;
 
 /// A glyph's refusal.
@@ -32,8 +32,12 @@ fn both_refuse(glyphs: &[u8], [globals, locals]: [&[u8]; 2], budget: u32, refuse
 
 #[test]
 fn the_index_of_the_flat_strings_is_written() {
-    let (glyphs, flat) = (index(&GLYPHS), index(&FLAT));
-    for profile in [Plain, Strict] {
+    // strict takes no glyph without bytes
+    let finished = |all: [Bytes; 3]| index(&[all[0], all[2]]);
+    for (profile, glyphs, flat) in [
+        (Plain, index(&GLYPHS), index(&FLAT)),
+        (Strict, finished(GLYPHS), finished(FLAT)),
+    ] {
         writes(&flat, |out| {
             flatten_font(&glyphs, EMPTY_INDEX, L, profile, MOST, out)
         });
@@ -81,12 +85,14 @@ fn the_first_refused_glyph_decides() {
 }
 
 #[test]
-fn operands_at_a_fixed_mask_are_told_with_the_glyph_alone() {
-    for (charstring, locals) in AT_MASK {
+fn what_strict_alone_refuses_is_told_with_the_glyph_alone() {
+    let at_mask = AT_MASK.map(|row| (row, Refusal::OperandsAtMask));
+    let unfinished = UNFINISHED.map(|row| (row, Refusal::NoEndchar));
+    for ((charstring, locals), refusal) in at_mask.into_iter().chain(unfinished) {
         let glyphs = index(&[&[0x0E], charstring, &[0x00]]);
         let refused = Refused {
             glyph: Some(1),
-            ..alone(Refusal::OperandsAtMask)
+            ..alone(refusal)
         };
         refuses(refused, |out| {
             flatten_font(&glyphs, EMPTY_INDEX, locals, Strict, AMPLE, out)
