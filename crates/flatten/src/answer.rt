@@ -216,6 +216,7 @@ fn say_refusal(refusal: Refusal) {
         Refusal::OperandsAtMask => say(
             b": operands wait at a mask whose length is fixed, in strict",
         ),
+        Refusal::NoEndchar => say(b": the charstring comes to its end without endchar, in strict"),
     }
 }
 
