@@ -1,9 +1,11 @@
 //! Faults in a thin layer before the library. A comparison and a fuzz target that do not catch each are worth little.
 
 use crate::lend::PLANTED;
-use crate::mask_faults;
-use crate::operation::{library, Call, Fault, Found, Lent, Operation, Side};
-use crate::operations::OPERATIONS;
+use crate::operation::{library, Call, Fault, Found, Lent, Operation, Outcome, Place, Side};
+use crate::operations::flatten::set;
+use crate::operations::{flatten, flatten_font, OPERATIONS};
+use crate::rules::flattening::Rules;
+use crate::{end_faults, mask_faults};
 
 const MOST: usize = usize::MAX;
 
@@ -26,7 +28,8 @@ static EVERYWHERE: [Fault; 9] = [
 /// All of them, those that any operation can have first.
 fn all() -> Vec<(&'static Fault, Option<&'static Operation>)> {
     let own = |&operation: &&'static Operation| {
-        let own = operation.faults.iter().chain(mask_faults::of(operation));
+        let strict = mask_faults::of(operation).iter().chain(end_faults::of(operation));
+        let own = operation.faults.iter().chain(strict);
         own.map(move |fault| (fault, Some(operation)))
     };
     let everywhere = EVERYWHERE.iter().map(|fault| (fault, None));
@@ -38,6 +41,52 @@ pub fn plant(number: usize) -> Option<String> {
     let &(fault, only) = all().get(number)?;
     PLANTED.set((fault, only)).ok()?;
     Some(format!("{}: {}", only.map_or("everywhere", |operation| operation.name), fault.name))
+}
+
+fn is_font(call: &Call) -> bool {
+    call.operation.number == flatten_font::OPERATION.number
+}
+
+/// What must come of a flattening by these rules.
+pub(crate) fn ruled(call: &Call, rules: Rules) -> Outcome {
+    if is_font(call) {
+        return flatten_font::ruled(call, rules);
+    }
+    flatten::ruled(call, rules)
+}
+
+pub(crate) fn tell_ruled(call: &Call, lent: &Lent, rules: Rules) -> u32 {
+    tell(call, lent, &ruled(call, rules))
+}
+
+pub(crate) fn tell(call: &Call, lent: &Lent, outcome: &Outcome) -> u32 {
+    for (which, place) in call.operation.places.iter().enumerate() {
+        match (place, outcome.values[which]) {
+            (Place::Size, Some(value)) => set(lent, which, value as usize),
+            (_, Some(value)) => set(lent, which, value as u32),
+            (_, None) => {}
+        }
+    }
+    // SAFETY: what is told to be written fits the room.
+    unsafe { lent.out.copy_from(outcome.bytes.as_ptr(), outcome.bytes.len()) };
+    outcome.answer
+}
+
+pub(crate) fn tokens_place(call: &Call) -> usize {
+    if is_font(call) {
+        2
+    } else {
+        1
+    }
+}
+
+/// The library's answer; with this refusal it tells tokens.
+pub(crate) fn tell_tokens(call: &Call, lent: &Lent, refusal: u32) -> u32 {
+    let answer = library(call, lent);
+    if answer == refusal {
+        set(lent, tokens_place(call), 0u32);
+    }
+    answer
 }
 
 fn writes(call: &Call) -> bool {

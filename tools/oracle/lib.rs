@@ -1,6 +1,7 @@
 //! The proved library held against the unchanged Rust and the rules of docs/RULES.md, operation by operation.
 
 pub mod compare;
+mod end_faults;
 pub mod faults;
 pub mod fixed;
 pub mod fonts;

@@ -1,10 +1,9 @@
 //! Faults about operands that wait at a mask, for both operations that flatten. All but the last tell what the rules give with
 //! the fault in them.
 
-use crate::operation::{library, Call, Fault, Lent, Operation, Outcome, Place};
-use crate::operations::flatten::set;
-use crate::operations::{flatten, flatten_font};
-use crate::rules::flattening::{at_mask, AtMask, MaskRule, Operands};
+use crate::faults::{tell_ruled, tell_tokens};
+use crate::operation::{Call, Fault, Lent, Operation};
+use crate::rules::flattening::{at_mask, AtMask, Operands, Rules, RULES};
 
 /// Those of an operation: all where it has 15, else none.
 pub fn of(operation: &Operation) -> &'static [Fault] {
@@ -45,7 +44,7 @@ static FAULTS: [Fault; 7] = [
         name: "operands at a fixed mask are cleared",
         plant: |call, lent| by(call, lent, cleared),
     },
-    Fault { name: "15 tells tokens", plant: tell_tokens },
+    Fault { name: "15 tells tokens", plant: |call, lent| tell_tokens(call, lent, 15) },
 ];
 
 fn refused_if(such: bool, at: AtMask) -> Operands {
@@ -62,33 +61,7 @@ fn cleared(at: AtMask) -> Operands {
     }
 }
 
-fn is_font(call: &Call) -> bool {
-    call.operation.number == flatten_font::OPERATION.number
-}
-
 /// Tells what must come where operands at a mask go by this rule.
-fn by(call: &Call, lent: &Lent, at_mask: MaskRule) -> u32 {
-    let ruled = if is_font(call) { flatten_font::ruled } else { flatten::ruled };
-    tell(call, lent, &ruled(call, at_mask))
-}
-
-fn tell(call: &Call, lent: &Lent, outcome: &Outcome) -> u32 {
-    for (which, place) in call.operation.places.iter().enumerate() {
-        match (place, outcome.values[which]) {
-            (Place::Size, Some(value)) => set(lent, which, value as usize),
-            (_, Some(value)) => set(lent, which, value as u32),
-            (_, None) => {}
-        }
-    }
-    // SAFETY: what is told to be written fits the room.
-    unsafe { lent.out.copy_from(outcome.bytes.as_ptr(), outcome.bytes.len()) };
-    outcome.answer
-}
-
-fn tell_tokens(call: &Call, lent: &Lent) -> u32 {
-    let answer = library(call, lent);
-    if answer == 15 {
-        set(lent, if is_font(call) { 2 } else { 1 }, 0u32);
-    }
-    answer
+fn by(call: &Call, lent: &Lent, at_mask: fn(AtMask) -> Operands) -> u32 {
+    tell_ruled(call, lent, Rules { at_mask, ..RULES })
 }

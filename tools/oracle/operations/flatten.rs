@@ -4,6 +4,8 @@
 
 use super::check_list::check;
 use super::write_charstring_number::rooms;
+use crate::end_faults::ANY_END;
+use crate::faults::tell_ruled;
 use crate::inputs::case::{Case, Given, NONE};
 use crate::inputs::{damaged, flattening, loose, structured};
 use crate::library::ighzamrel_flatten;
@@ -11,7 +13,7 @@ use crate::operation::{library, Argument, Call, Fault, Found, Lent, Must, Next, 
 use crate::operation::{Outcome, Owed, Place, BARE};
 use crate::random::Random;
 use crate::record::MOST;
-use crate::rules::flattening::{self as rules, at_mask, MaskRule, Verdict};
+use crate::rules::flattening::{Lists, Rules, Verdict, RULES};
 use crate::rules::index::{formed, Flaw};
 use crate::kept::Kept;
 use std::borrow::Cow;
@@ -54,6 +56,7 @@ pub static OPERATION: Operation = Operation {
         (12, TOKENS),
         (13, 0b11),
         (15, 0),
+        (16, 0),
     ],
     reasons: Some((3, &[20, 21, 40, 41, 42])),
     found: Found::Written,
@@ -120,6 +123,7 @@ pub static OPERATION: Operation = Operation {
             plant: |call, lent| after(call, lent, refuses_list, exchange),
         },
         Fault { name: "1 tells what is wrong with the local list", plant: by_locals },
+        Fault { name: "a last byte like endchar's is taken for one", plant: by_last_byte },
     ],
     ..BARE
 };
@@ -165,7 +169,7 @@ fn any(operation: &'static Operation, random: &mut Random) -> Call<'static> {
 fn owed(call: &Call) -> Result<Owed, String> {
     let [charstring, globals, locals] = call.slices.each_ref().map(|slice| &slice[..]);
     Kept::with([globals, locals], |kept| {
-        let lists = match rules::Lists::known(globals, locals, kept.formed) {
+        let lists = match Lists::known(globals, locals, kept.formed) {
             Ok(lists) => lists,
             Err(bad) => return Ok(Owed::by_rule(bad_list(call.operation, bad))),
         };
@@ -198,15 +202,15 @@ fn stopped(refusal: u32, tokens: u32) -> Outcome {
     told
 }
 
-/// What must come where operands at a mask go by this rule.
-pub fn ruled(call: &Call, at_mask: MaskRule) -> Outcome {
-    told(call, &verdict(call, at_mask))
+/// What must come by these rules.
+pub fn ruled(call: &Call, rules: Rules) -> Outcome {
+    told(call, &verdict(call, rules))
 }
 
-fn verdict(call: &Call, at_mask: MaskRule) -> Verdict {
+fn verdict(call: &Call, rules: Rules) -> Verdict {
     let [charstring, globals, locals] = call.slices.each_ref().map(|slice| &slice[..]);
-    match rules::Lists::known(globals, locals, [globals, locals].map(formed)) {
-        Ok(lists) => lists.by(at_mask).flattened(charstring, call.strict(), call.budget).0,
+    match Lists::known(globals, locals, [globals, locals].map(formed)) {
+        Ok(lists) => lists.by(rules).flattened(charstring, call.strict(), call.budget).0,
         Err((refusal, flaw)) => Verdict::BadList(refusal, flaw),
     }
 }
@@ -233,7 +237,7 @@ fn by_rust(verdict: &Verdict) -> Option<Result<Vec<u8>, Error>> {
 /// The Rust's error for the refusal of a run, or `None` where it has no word.
 pub fn error(refusal: u32) -> Option<Error> {
     match refusal {
-        3 | 8 | 11 | 15 => None,
+        3 | 8 | 11 | 15 | 16 => None,
         12 => Some(Error::Unimplemented),
         _ => Some(Error::CFFError),
     }
@@ -241,6 +245,7 @@ pub fn error(refusal: u32) -> Option<Error> {
 
 fn next<'a>(call: &'a Call<'a>, outcome: &'a Outcome) -> Vec<Next<'a>> {
     let mut next = rooms(call, outcome);
+    next.extend(no_room(call, outcome));
     next.extend(budgets(call, outcome));
     next.extend(lists(call, outcome, &[(1, 1), (2, 2)]));
     if outcome.answer == 0 {
@@ -254,6 +259,15 @@ fn next<'a>(call: &'a Call<'a>, outcome: &'a Outcome) -> Vec<Next<'a>> {
     }
     next.push(other_profile(call, outcome));
     next
+}
+
+/// What refuses a run is told whatever the room.
+pub fn no_room<'a>(call: &'a Call<'a>, outcome: &Outcome) -> Option<Next<'a>> {
+    stops(outcome.answer).then(|| Next {
+        call: Call { room: 0, ..call.again() },
+        must: Must::GiveTheSame,
+        law: "without room the run is not refused as with it",
+    })
 }
 
 pub fn other_profile<'a>(call: &'a Call<'a>, outcome: &Outcome) -> Next<'a> {
@@ -284,11 +298,11 @@ fn budgets<'a>(call: &'a Call<'a>, outcome: &'a Outcome) -> Vec<Next<'a>> {
     next
 }
 
-/// The tokens of a run that ended before the budget did; 15 does not tell them, and the rule does.
+/// The tokens of a run that ended before the budget did; 15 and 16 do not tell them, and the rule does.
 fn tokens(call: &Call, outcome: &Outcome) -> Option<u32> {
     match outcome.answer {
         3 => None,
-        15 => Some(verdict(call, at_mask).tokens()),
+        15 | 16 => Some(verdict(call, RULES).tokens()),
         _ => outcome.values[1].map(|tokens| tokens as u32),
     }
 }
@@ -330,7 +344,7 @@ pub fn accepts(answer: u32) -> bool {
 
 /// Whether a run was refused.
 pub fn stops(answer: u32) -> bool {
-    tells_tokens(answer) || answer == 15
+    tells_tokens(answer) || [15, 16].contains(&answer)
 }
 
 /// Whether a run was refused with its tokens.
@@ -363,6 +377,13 @@ fn exchange(lent: &Lent) {
     if reason > 25 {
         set(lent, 2, reason);
         set(lent, 3, entry);
+    }
+}
+
+fn by_last_byte(call: &Call, lent: &Lent) -> u32 {
+    match verdict(call, ANY_END) {
+        Verdict::Flat(flat, _) if flat.last() == Some(&14) => tell_ruled(call, lent, ANY_END),
+        _ => library(call, lent),
     }
 }
 

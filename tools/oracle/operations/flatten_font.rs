@@ -3,7 +3,8 @@
 //! numbers of glyphs and tokens, room, 23, and what is wrong with a list are the rule's alone.
 
 use super::flatten::{
-    accepts, after, asked, bad_list, error, lists, of, other_profile, set, stops, tells_tokens,
+    accepts, after, asked, bad_list, error, lists, no_room, of, other_profile, set, stops,
+    tells_tokens,
 };
 use super::{flatten, write_charstring_number::rooms};
 use crate::inputs::case::{list, NONE};
@@ -13,7 +14,7 @@ use crate::library::ighzamrel_flatten_font;
 use crate::operation::{library, Argument, Call, Fault, Found, Lent, Must, Next, Operation};
 use crate::operation::{Outcome, Owed, Place, BARE};
 use crate::record::MOST;
-use crate::rules::flattening::{at_mask, Lists, MaskRule};
+use crate::rules::flattening::{Lists, Rules, RULES};
 use crate::rules::font::{self as rules, Flats};
 use crate::rules::index::{entries, formed, needed, Flaw, Refusal};
 use std::borrow::Cow;
@@ -59,6 +60,7 @@ pub static OPERATION: Operation = Operation {
         (11, STOPPED),
         (12, STOPPED),
         (15, GLYPH),
+        (16, GLYPH),
         (23, 0),
         (13, LENGTH),
     ],
@@ -83,6 +85,12 @@ pub static OPERATION: Operation = Operation {
         Fault {
             name: "glyphs are counted from 1",
             plant: |call, lent| after(call, lent, stops, |lent| set(lent, 1, lent.word(1) + 1)),
+        },
+        Fault {
+            name: "16 is told of the next glyph",
+            plant: |call, lent| {
+                after(call, lent, |answer| answer == 16, |lent| set(lent, 1, lent.word(1) + 1))
+            },
         },
         Fault {
             name: "a byte is written before a glyph's refusal",
@@ -123,7 +131,7 @@ fn invoke_on(call: &Call, lent: &Lent, charstrings: *const u8, size: usize) -> u
 fn owed(call: &Call) -> Result<Owed, String> {
     let [charstrings, globals, locals] = call.slices.each_ref().map(|slice| &slice[..]);
     Kept::with([globals, locals], |kept| {
-        let flats = match flats(call, kept.formed, at_mask) {
+        let flats = match flats(call, kept.formed, RULES) {
             Ok(flats) => flats,
             Err(bad) => return Ok(Owed::by_rule(bad_list(call.operation, bad))),
         };
@@ -135,10 +143,10 @@ fn owed(call: &Call) -> Result<Owed, String> {
     })
 }
 
-/// What must come where operands at a mask go by this rule.
-pub fn ruled(call: &Call, at_mask: MaskRule) -> Outcome {
+/// What must come by these rules.
+pub fn ruled(call: &Call, rules: Rules) -> Outcome {
     let formed = [1, 2].map(|list| formed(&call.slices[list]));
-    match flats(call, formed, at_mask) {
+    match flats(call, formed, rules) {
         Ok(flats) => told(&flats, call.room),
         Err(bad) => bad_list(call.operation, bad),
     }
@@ -147,10 +155,10 @@ pub fn ruled(call: &Call, at_mask: MaskRule) -> Outcome {
 fn flats<'a>(
     call: &'a Call,
     formed: [Result<u32, Flaw>; 2],
-    at_mask: MaskRule,
+    by: Rules,
 ) -> Result<Flats<'a>, (Refusal, Flaw)> {
     let [charstrings, globals, locals] = call.slices.each_ref().map(|slice| &slice[..]);
-    let lists = Lists::known(globals, locals, formed)?.by(at_mask);
+    let lists = Lists::known(globals, locals, formed)?.by(by);
     rules::flattened(lists, charstrings, call.strict(), call.budget)
 }
 
@@ -179,6 +187,7 @@ fn by_rust(flats: &Flats) -> Option<Result<Vec<u8>, Error>> {
 
 fn next<'a>(call: &'a Call<'a>, outcome: &'a Outcome) -> Vec<Next<'a>> {
     let mut next = rooms(call, outcome);
+    next.extend(no_room(call, outcome));
     next.extend(lists(call, outcome, &[(1, 1), (2, 2), (26, 0)]));
     next.extend(glyph_by_glyph(call, outcome));
     next.extend(again(call, outcome));

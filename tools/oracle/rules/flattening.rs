@@ -89,9 +89,52 @@ pub enum Operands {
     Cleared,
 }
 
-pub type MaskRule = fn(AtMask) -> Operands;
+/// How a string came to its end.
+#[derive(Clone, Copy, PartialEq)]
+pub enum By {
+    RunningOut,
+    Return,
+    Endchar,
+}
 
-/// The rule; planted faults go by others.
+/// What decides about what follows where a string of a run comes to its end.
+#[derive(Clone, Copy)]
+pub struct AtEnd {
+    pub strict: bool,
+    /// 1 for the charstring itself.
+    pub depth: u32,
+    pub by: By,
+    /// Whether the string has no bytes.
+    pub empty: bool,
+}
+
+/// What follows.
+#[derive(Clone, Copy, PartialEq)]
+pub enum Ending {
+    /// Back to the caller, behind the call; where there is none, everything ends.
+    Back,
+    Everything,
+    /// 16.
+    Refused,
+}
+
+/// The rules that planted faults have others for.
+#[derive(Clone, Copy)]
+pub struct Rules {
+    pub at_mask: fn(AtMask) -> Operands,
+    pub at_end: fn(AtEnd) -> Ending,
+}
+
+pub const RULES: Rules = Rules { at_mask, at_end };
+
+pub fn at_end(at: AtEnd) -> Ending {
+    match at {
+        AtEnd { by: By::Endchar, .. } => Ending::Everything,
+        AtEnd { strict: true, depth: 1, .. } => Ending::Refused,
+        _ => Ending::Back,
+    }
+}
+
 pub fn at_mask(at: AtMask) -> Operands {
     match at {
         AtMask { fixed: false, .. } => Operands::Declare,
@@ -107,12 +150,12 @@ struct List<'a> {
     count: u32,
 }
 
-/// Both lists, well formed, and the rule for operands at a mask.
+/// Both lists, well formed, and the rules to run by.
 #[derive(Clone, Copy)]
 pub struct Lists<'a> {
     globals: List<'a>,
     locals: List<'a>,
-    at_mask: MaskRule,
+    rules: Rules,
 }
 
 /// What a run met: calls that it entered, those of them by a Fixed, and of these the nearly whole; masks; the depth.
@@ -123,13 +166,6 @@ pub struct Met {
     pub nearly: u64,
     pub masks: u64,
     pub deepest: u32,
-}
-
-/// How a string ended.
-#[derive(PartialEq)]
-enum Ending {
-    Returned,
-    Everything,
 }
 
 struct Run<'a> {
@@ -145,7 +181,7 @@ struct Run<'a> {
     met: Met,
 }
 
-/// 1, 2, then the run's first refusal.
+/// 1, 2, then the run's first refusal; 16 is that of its end.
 pub fn flattened(asked: &Asked) -> Verdict {
     let formed = [asked.globals, asked.locals].map(indexes::formed);
     match Lists::known(asked.globals, asked.locals, formed) {
@@ -176,13 +212,13 @@ impl<'a> Lists<'a> {
         Ok(Lists {
             globals: List { bytes: globals, count: global.map_err(bad(1))? },
             locals: List { bytes: locals, count: local.map_err(bad(2))? },
-            at_mask,
+            rules: RULES,
         })
     }
 
-    /// The same, with another rule for operands at a mask.
-    pub fn by(self, at_mask: MaskRule) -> Self {
-        Lists { at_mask, ..self }
+    /// The same, by other rules.
+    pub fn by(self, rules: Rules) -> Self {
+        Lists { rules, ..self }
     }
 
     pub fn flattened(self, charstring: &'a [u8], strict: bool, budget: u32) -> (Verdict, Met) {
@@ -223,8 +259,18 @@ impl Met {
 }
 
 impl<'a> Run<'a> {
-    /// Runs a string to its end, at a depth.
+    /// Runs a string at a depth, and tells what follows; 16 where it may not end so.
     fn string(&mut self, bytes: &'a [u8], depth: u32) -> Result<Ending, Refusal> {
+        let Some(by) = self.to_end(bytes, depth)? else { return Ok(Ending::Everything) };
+        let at = AtEnd { strict: self.strict, depth, by, empty: bytes.is_empty() };
+        match (self.lists.rules.at_end)(at) {
+            Ending::Refused => Err(16),
+            ending => Ok(ending),
+        }
+    }
+
+    /// Runs its tokens, and tells how it came to its end; `None` where an entry that it called ended everything.
+    fn to_end(&mut self, bytes: &'a [u8], depth: u32) -> Result<Option<By>, Refusal> {
         let mut left = bytes;
         while let Some(&first) = left.first() {
             if self.tokens == self.budget {
@@ -238,18 +284,21 @@ impl<'a> Run<'a> {
                 10 | 29 => {
                     left = &left[1..];
                     if self.call(first == 29, depth)? == Ending::Everything {
-                        return Ok(Ending::Everything);
+                        return Ok(None);
                     }
                 }
-                11 => return Ok(Ending::Returned),
-                14 => return self.end_char(),
+                11 => return Ok(Some(By::Return)),
+                14 => {
+                    self.end_char()?;
+                    return Ok(Some(By::Endchar));
+                }
                 _ => {
                     left = &left[1..];
                     self.operator(first)?;
                 }
             }
         }
-        Ok(Ending::Returned)
+        Ok(Some(By::RunningOut))
     }
 
     fn keep(&mut self, bytes: Vec<u8>) {
@@ -312,7 +361,7 @@ impl<'a> Run<'a> {
             fixed: self.mask_length > 0,
             lacking: from.len() < self.mask_length,
         };
-        match (self.lists.at_mask)(at) {
+        match (self.lists.rules.at_mask)(at) {
             Operands::Declare => {
                 self.count_hints()?;
                 self.mask_length = self.hints.div_ceil(8);
@@ -344,11 +393,11 @@ impl<'a> Run<'a> {
         self.string(&list.bytes[entry.place..entry.place + entry.length], depth + 1)
     }
 
-    fn end_char(&mut self) -> Result<Ending, Refusal> {
+    fn end_char(&mut self) -> Result<(), Refusal> {
         if self.stack.len() >= 4 {
             return Err(12);
         }
         self.keep(vec![14]);
-        Ok(Ending::Everything)
+        Ok(())
     }
 }
