@@ -316,7 +316,7 @@ fn fonts() -> Vec<Vec<u8>> {
     let eight = |called: u8| entry(&[called, 0x0A].repeat(8));
     let list = [vec![0], entry(&[0x15; 64]), eight(0x20), eight(0x21)].concat();
     for glyphs in [2, 7] {
-        let glyphs = entry(&[0x22, 0x0A, 0x22, 0x0A]).repeat(glyphs);
+        let glyphs = entry(&[0x22, 0x0A, 0x22, 0x0A, 0x0E]).repeat(glyphs);
         seeds.push(over_list(33, STRICT, &list, &[&[0][..], &glyphs].concat()));
     }
     seeds

@@ -46,7 +46,8 @@ pub(super) fn all() -> Vec<Given> {
         strict_hints(),
         plain_hints(0),
         waiting(),
-        masks().iter().flat_map(Case::around).collect(),
+        masks().iter().chain(&ends()).flat_map(Case::around).collect(),
+        long_ends(),
         [1239, 1240, 33899, 33900].into_iter().flat_map(counts).collect(),
         forty(),
     ]
@@ -93,6 +94,7 @@ pub(super) fn triggers() -> Vec<Vec<u8>> {
     triggers.last_mut().expect("there are some").push(0x0E);
     triggers.push([&FULL_STEM.repeat(4)[..], &[0x8B, 0x8B, 0x01]].concat());
     triggers.push([&FULL_STEM.repeat(4)[..], &[0x8B, 0x8B, 0x13]].concat());
+    triggers.extend([vec![], vec![0x8C, 0x16], vec![0x0B]]);
     triggers
 }
 
@@ -193,7 +195,8 @@ fn depths() -> Vec<Given> {
 fn operands() -> Vec<Given> {
     let mut asked = Vec::new();
     for count in [47, 48] {
-        for after in [&[0x15][..], &[0x8B], &[FIRST], &[0x1C, 0x00], &[FIRST, LOCAL], &[LOCAL]] {
+        let numbers = [&[0x15, 0x0E][..], &[0x8B, 0x15, 0x0E], &[FIRST, 0x15, 0x0E], &[0x1C, 0x00]];
+        for after in numbers.into_iter().chain([&[FIRST, LOCAL, 0x0E][..], &[LOCAL]]) {
             let string = [&vec![0x8B; count][..], after].concat();
             asked.extend(Case::new(&string, NONE, L).both());
         }
@@ -209,7 +212,9 @@ fn strict_hints() -> Vec<Given> {
         for after in [&[0x17][..], &[0x8B, 0x8B, 0x17], &[0x13], &[0x01, 0x8B, 0x8B, 0x13]] {
             for mask in [0, 11, 12, 13] {
                 let operands = vec![0x8B; last];
-                let string = [&stems, &operands, after, &vec![0x80; mask]].concat();
+                // a path, so that no operand waits at endchar; a mask that is to lack a byte would take it
+                let end = if mask == 11 { &[][..] } else { &[0x15, 0x0E] };
+                let string = [&stems, &operands, after, &vec![0x80; mask], end].concat();
                 asked.extend(Case::new(&string, NONE, NONE).both());
             }
         }
@@ -299,6 +304,79 @@ pub(super) fn masks() -> Vec<Case> {
     strings.map(|string| Case::new(&string, &lists, &lists)).collect()
 }
 
+/// Over lists as `ends` has them.
+const ENDS: [&[u8]; 33] = [
+    // no end of its own, and a return, behind which an endchar is not looked at
+    &[],
+    &[0x8B],
+    &[0x8C, 0x16],
+    &[0x0B],
+    &[0x0B, 0x0E],
+    &[0x8C, 0x16, 0x0B, 0x0E],
+    // endchar, and what is not looked at behind it
+    &[0x0E],
+    &[0x8C, 0x0E, 0x0B],
+    &[0x8C, 0x16, 0x0E, 0x00],
+    // last bytes that look like endchar: of a number, a Fixed and a mask
+    &[0x1C, 0x00, 0x0E],
+    &[0xFF, 0x00, 0x00, 0x00, 0x0E],
+    &[0x8B, 0x8C, 0x13, 0x0E],
+    // an entry that returns, that runs out, that has no bytes, and that calls the first two
+    &[FIRST, LOCAL],
+    &[FIRST, GLOBAL, 0x0B],
+    &[FIRST, LOCAL, 0x0E],
+    &[SECOND, GLOBAL],
+    &[SECOND, LOCAL, 0x0B, 0x0E],
+    &[SECOND, GLOBAL, 0x0E],
+    &[THIRD, LOCAL],
+    &[THIRD, GLOBAL, 0x0E],
+    &[THIRD + 1, LOCAL],
+    &[THIRD + 1, GLOBAL, 0x0E],
+    // endchar in an entry, and in one that this calls
+    &[THIRD + 2, LOCAL],
+    &[THIRD + 2, GLOBAL, 0x0B],
+    &[THIRD + 2, LOCAL, 0x00],
+    &[THIRD + 3, GLOBAL],
+    &[THIRD + 3, LOCAL, 0x0B],
+    &[FIRST, LOCAL, SECOND, GLOBAL, THIRD + 3, LOCAL, 0x00],
+    // what else is refused
+    &[0x8C, 0x00],
+    &[0x8C, 0x1C, 0x00],
+    &[FIRST, LOCAL, LOCAL],
+    &[0x8B, 0x8B, 0x8B, 0x8B, 0x0E],
+    &[0x8B, 0x8B, 0x8B, THIRD + 4, LOCAL],
+];
+
+/// Ends of each kind, at each of three depths. The entries of both lists return, run out, have no bytes, call the first two, have an
+/// endchar, call that one, and have an operand and endchar.
+pub(super) fn ends() -> Vec<Case> {
+    let entries = |call: u8| {
+        list(&[
+            &[0x8C, 0x16, 0x0B][..],
+            &[0x8C, 0x16],
+            &[],
+            &[FIRST, call, SECOND, call, 0x0B],
+            &[0x8C, 0x0E, 0x0B],
+            &[THIRD + 2, call, 0x0B],
+            &[0x8B, 0x0E],
+        ])
+    };
+    let (globals, locals) = (entries(GLOBAL), entries(LOCAL));
+    ENDS.iter().map(|string| Case::new(string, &globals, &locals)).collect()
+}
+
+/// In strict, as many bytes as a call keeps, so that it runs a charstring just once, and one more: with endchar and without.
+fn long_ends() -> Vec<Given> {
+    let moves = Ladder { first: 0, rungs: 4 };
+    let locals = list(&moves.entries(&[0x15]));
+    let mut asked = Vec::new();
+    for (count, end) in [(2047, &[0x0E][..]), (2048, &[0x0E]), (2048, &[]), (2049, &[])] {
+        let case = Case::new(&[&moves.times(count), end].concat(), NONE, &locals);
+        asked.extend([0, 4096].map(|room| case.asked(STRICT, AMPLE, room)));
+    }
+    asked
+}
+
 /// A list of so many entries, of which the first and the last are not empty, called by each bias.
 fn counts(entries: usize) -> Vec<Given> {
     let mut members: Vec<&[u8]> = vec![&[]; entries];
@@ -314,6 +392,7 @@ fn counts(entries: usize) -> Vec<Given> {
             let index = i16::try_from(index).unwrap_or(i16::MAX);
             string.extend([&[0x1C][..], &index.to_be_bytes(), &[LOCAL]].concat());
         }
+        string.push(0x0E);
         asked.push(Case::new(&string, NONE, &long).ample(PLAIN));
         if entries < 2000 {
             let global: Vec<u8> =

@@ -4,7 +4,7 @@ use super::case::{
     list, Case, Given, AMPLE, FIRST, GLOBAL, L, LOCAL, NONE, PLAIN, SECOND, STRICT, THIRD,
 };
 use super::damaged::hurt;
-use super::edges::{masks, plain_hints, triggers, Ladder, BAD, MOST_STEMS};
+use super::edges::{ends, masks, plain_hints, triggers, Ladder, BAD, MOST_STEMS};
 use super::flattening::{each_once, rows as charstrings};
 use super::index::{any_bytes, flawed, laid, rows};
 use super::loose::FULL_STEM;
@@ -29,7 +29,7 @@ const BOUNDS: [u64; 4] = [255, 65_535, 16_777_215, 4_294_967_295];
 
 /// Those of the list, each once.
 pub fn listed() -> Vec<Given> {
-    let mut asked: Vec<Given> = small().iter().chain(&masked()).flat_map(Font::around).collect();
+    let mut asked: Vec<Given> = small().iter().chain(&between()).flat_map(Font::around).collect();
     asked.extend(refused());
     asked.extend(bad_lists());
     asked.extend(laid_out());
@@ -134,18 +134,20 @@ fn small() -> Vec<Font> {
         &[0x8B, 0x8C, 0x13, 0x80, 0x0E],
     ];
     fonts.push(Font::of(&sound, L));
+    // these strict accepts too
+    fonts.push(Font::of(&[&[0x0E], sound[1], sound[2], sound[4]], L));
     fonts.push(Font::of(&[sound[1], sound[1]], L));
     fonts
 }
 
-/// Each charstring about operands at a mask as the second glyph, between two that are accepted.
-fn masked() -> Vec<Font> {
+/// Each charstring about operands at a mask, or about an end, as the second glyph, between two that are accepted.
+fn between() -> Vec<Font> {
     let font = |Case { charstring, globals, locals }| Font {
-        glyphs: vec![vec![0x0E], charstring, vec![0x8C, 0x16]],
+        glyphs: vec![vec![0x0E], charstring, vec![0x8C, 0x16, 0x0E]],
         globals,
         locals,
     };
-    masks().into_iter().map(font).collect()
+    masks().into_iter().chain(ends()).map(font).collect()
 }
 
 /// The first, a middle and the last glyph refused, and two of them: for each refusal, also where there is no room; and by the
@@ -210,10 +212,12 @@ fn bad_lists() -> Vec<Given> {
 /// Charstrings by offsets of each size, with data before the first, and bytes behind each list.
 fn laid_out() -> Vec<Given> {
     let glyphs: [&[u8]; 3] = [&[FIRST, LOCAL, 0x0E], &[], &[0x8C, FIRST, GLOBAL]];
+    let ended: [&[u8]; 3] = [glyphs[0], &[0x0E], &[0x8C, FIRST, GLOBAL, 0x0E]];
     let mut asked = Vec::new();
     for (size, before) in (1..=4).flat_map(|size| [0, 1, 3].map(|before| (size, before))) {
         let charstrings = laid(&glyphs, size, before);
-        asked.extend(Case::new(&charstrings, L, L).both());
+        asked.push(Case::new(&charstrings, L, L).ample(PLAIN));
+        asked.push(Case::new(&laid(&ended, size, before), L, L).ample(STRICT));
         let behind = |list: &[u8]| [list, &[0x0E; 3][..before]].concat();
         asked.push(Case::new(&behind(&charstrings), &behind(L), &behind(L)).ample(PLAIN));
     }
@@ -232,8 +236,15 @@ fn at_bounds() -> Vec<Given> {
     }
     let kept = long(3, KEPT_BYTES).whole(KEPT_BYTES);
     asked.push(Given { room: kept.room - 1, ..kept });
-    let more = long(3, KEPT_BYTES + 1).whole(KEPT_BYTES + 1);
-    asked.push(Given { profile: STRICT, ..more });
+    let more = long(3, KEPT_BYTES + 1);
+    asked.push(Given { profile: STRICT, ..more.whole(KEPT_BYTES + 1) });
+    // a glyph without endchar, before as many bytes as a call keeps, and behind them
+    for at in [1, 3] {
+        let mut glyphs = more.glyphs.clone();
+        glyphs.insert(at, vec![0x8C, 0x16]);
+        let unended = Font { glyphs, globals: more.globals.clone(), locals: more.locals.clone() };
+        asked.push(unended.case().asked(STRICT, AMPLE, 1 << 16));
+    }
     for count in [KEPT_GLYPHS, KEPT_GLYPHS + 1] {
         asked.push(Font::of(&vec![&[][..]; count], NONE).whole(0));
     }
@@ -262,8 +273,8 @@ fn many() -> Vec<Given> {
     asked
 }
 
-/// So many glyphs whose flat strings have just so many bytes together. Beyond a megabyte these are masks of 8,192 bytes, behind
-/// 65,535 hints, which only plain takes.
+/// So many glyphs whose flat strings have just so many bytes together, each an endchar at its end where it has any. Beyond a
+/// megabyte these are masks of 8,192 bytes, behind 65,535 hints, which only plain takes.
 fn long(count: usize, sum: u64) -> Font {
     const MASK: u64 = 8192;
     const FEWEST: u64 = 1 << 20;
@@ -278,14 +289,16 @@ fn long(count: usize, sum: u64) -> Font {
         entries.extend(stems.entries(&FULL_STEM));
     }
     let glyph = |i: u64| {
-        let length = (sum + i) / count as u64;
-        match length.checked_sub(hinted).filter(|_| sum > FEWEST) {
+        let Some(length) = ((sum + i) / count as u64).checked_sub(1) else { return Vec::new() };
+        let mut glyph = match length.checked_sub(hinted).filter(|_| sum > FEWEST) {
             None => moves.times(length),
             Some(left) => {
                 [&hints[..], &masks.times(left / (MASK + 1)), &moves.times(left % (MASK + 1))]
                     .concat()
             }
-        }
+        };
+        glyph.push(0x0E);
+        glyph
     };
     let glyphs = (0..count as u64).map(glyph).collect();
     Font { glyphs, globals: NONE.to_vec(), locals: list(&entries) }
@@ -332,8 +345,11 @@ fn any_long(random: &mut Random) -> Font {
     let near = random.within(0, 2) as u64;
     let mut font = match random.within(0, 9) {
         0 => long(2, BOUNDS[3] - 1 + near),
-        1 => Font::of(&vec![&[][..]; KEPT_GLYPHS - 1 + near as usize], NONE),
-        2..=5 => long(random.within(1, 9) as usize, 65_533 + near),
+        1 | 2 => {
+            let glyph: &[u8] = random.one_of(&[&[][..], &[0x0E]]);
+            Font::of(&vec![glyph; KEPT_GLYPHS - 1 + near as usize], NONE)
+        }
+        3..=5 => long(random.within(1, 9) as usize, 65_533 + near),
         _ => long(random.within(1, 9) as usize, KEPT_BYTES - 1 + near),
     };
     if random.once_in(4) {

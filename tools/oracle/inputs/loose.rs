@@ -14,10 +14,11 @@ pub const FULL_STEM: [u8; 49] = {
     bytes
 };
 
-/// A charstring with its lists; at times it starts near the strict limit of hints.
+/// A charstring with its lists; at times it starts near the strict limit of hints, and mostly it has an endchar at its end.
 pub fn loose(random: &mut Random) -> Case {
     let stems = if random.once_in(20) { random.within(3, 4) } else { 0 };
-    let charstring = [FULL_STEM.repeat(stems as usize), any_string(random, 12)].concat();
+    let end: &[u8] = random.one_of(&[&[][..], &[14], &[21, 14], &[21, 14]]);
+    let charstring = [&FULL_STEM.repeat(stems as usize)[..], &any_string(random, 12), end].concat();
     Case { charstring, globals: any_list(random), locals: any_list(random) }
 }
 

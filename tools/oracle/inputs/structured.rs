@@ -1,5 +1,5 @@
-//! Random charstrings that mostly run to their end: stems, masks of their width, paths, and calls of subroutines
-//! that call others, over lists on both sides of each bias. About a third have one thing wrong in them.
+//! Random charstrings that mostly run to their endchar: stems, masks of their width, paths, and calls of subroutines
+//! that call others, over lists on both sides of each bias. About a third have one thing wrong in them, and a tenth no endchar.
 
 use super::case::{list, Case, GLOBAL, LOCAL};
 use super::font::Font;
@@ -38,8 +38,9 @@ struct Making<'r> {
     locals: Vec<Vec<u8>>,
     globals: Vec<Vec<u8>>,
     made: Vec<Subroutine>,
-    /// How many strings are made before the one with something wrong.
+    /// How many strings are made before the one with something wrong, and how many charstrings before the one without endchar.
     until_wrong: i64,
+    until_unended: i64,
 }
 
 /// A charstring with its lists.
@@ -55,8 +56,10 @@ pub fn structured_font(count: usize, random: &mut Random) -> Font {
     let globals = vec![Vec::new(); any_count(deep, random)];
     let hints = any_hints(random);
     let until_wrong = if random.once_in(3) { random.within(0, 2 + count as i64) } else { -1 };
-    let mask_length = hints.div_ceil(8);
-    let mut making = Making { random, mask_length, locals, globals, made: Vec::new(), until_wrong };
+    let until_unended = if random.once_in(5) { random.within(0, count as i64) } else { -1 };
+    let (mask_length, made) = (hints.div_ceil(8), Vec::new());
+    let mut making =
+        Making { random, mask_length, locals, globals, made, until_wrong, until_unended };
     if deep {
         making.chain();
     }
@@ -99,14 +102,23 @@ impl Making<'_> {
             self.add_call(&mut string, outermost);
         }
         self.add_pieces(&mut string, &mut tokens);
+        self.add_end(&mut string, &mut tokens);
+        string
+    }
+
+    /// An endchar, its own or a subroutine's, or a token that lacks bytes; where it is to have none, nothing or a return.
+    fn add_end(&mut self, string: &mut Vec<u8>, tokens: &mut usize) {
+        let unended = self.until_unended == 0;
+        self.until_unended -= 1;
+        if unended {
+            return string.extend(self.random.one_of(&[&[][..], &[11], &[11, 14]]));
+        }
+        let ends = |leaves| leaves == Leaves::End;
         match self.random.within(0, 15) {
-            0 => {}
-            1 => string.push(11),
-            2 | 3 => drop(self.call_one(&mut string, &mut tokens, |leaves| leaves == Leaves::End)),
-            4 => add_unfinished(&mut string, self.random),
+            0 => add_unfinished(string, self.random),
+            1..=3 if self.call_one(string, tokens, ends).is_some() => {}
             _ => string.push(14),
         }
-        string
     }
 
     /// So many hints: by stems, by subroutines of stems, and at times by operands before a first mask.
