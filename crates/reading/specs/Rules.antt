@@ -56,7 +56,7 @@ type2 = kindBy true
 abbrev pub plain : Rules
 plain = record { operands = 48; levels = 63; hints = 65535; exact = false; clean = false; finished = false; width = 2; kind = type2 }
 
--- TN5177, appendix B: ten nested calls, and 96 stem hints; section 4.2: endchar last; section 4.3: operands at a mask only as stems, before the first
+-- TN5177, appendix B: ten nested calls, and 96 stem hints; section 4: endchar last; section 4.3: operands at a mask only as stems, before the first
 abbrev pub strict : Rules
 strict = record { operands = 48; levels = 10; hints = 96; exact = true; clean = true; finished = true; width = 2; kind = type2 }
 
