@@ -11,6 +11,8 @@ use crate::line::Line;
 use crate::room::fill;
 use font::FontFlattened;
 use index::Flaw;
+use number::Operand;
+use reading::Advance;
 use reading::Flattened;
 use reading::Profile;
 use reading::Stopped;
@@ -50,18 +52,34 @@ fn profile(strict: bool) -> Profile {
     Profile::Plain
 }
 
-// `0 N TOKENS HEX`; `1 ENTRY REASON` or `1 REASON`, and the same for 2; `9 TOKENS`, or `15` alone.
+// `0 N TOKENS WIDTH HEX`; `1 ENTRY REASON` or `1 REASON`, and the same for 2; `9 TOKENS`, or `15` alone.
 fn flattened(answer: Flattened, room: &[u8]) -> Line {
     let line = Line::of(answer.number());
     match answer {
-        Flattened::Accepted(n, tokens) => {
-            line.value(n as u64).value(tokens as u64).shows(n, room)
+        Flattened::Accepted(n, tokens, advance) => {
+            said(advance, line.value(n as u64).value(tokens as u64)).shows(n, room)
         }
         Flattened::BadGlobals(flaw) => flawed(flaw, line).keeps(room),
         Flattened::BadLocals(flaw) => flawed(flaw, line).keeps(room),
         Flattened::Refused(why) => stopped(why, line).keeps(room),
         Flattened::NoRoom(n, tokens) => line.value(n as u64).value(tokens as u64).keeps(room),
     }
+}
+
+// WIDTH: `-` for none, `5`, or a Fixed as `327680/65536`.
+fn said(advance: Advance, line: Line) -> Line {
+    match advance {
+        Advance::Default => line.nothing(),
+        Advance::Given(o) => operand(o, line),
+    }
+}
+
+fn operand(o: Operand, line: Line) -> Line {
+    let told = line.signed_value(o.value);
+    if o.fixed {
+        return told.of_65536();
+    }
+    told
 }
 
 // `0 N HEX`; `9 GLYPH TOKENS` or `15 GLYPH`; 26 as 1 and 2.

@@ -38,6 +38,16 @@ impl Line {
         self.put(b' ').put(b'-').decimal(4294967296 - bits as u64)
     }
 
+    // A value that there is not.
+    pub(crate) fn nothing(self) -> Self {
+        self.put(b' ').put(b'-')
+    }
+
+    // The value before counts 65536ths.
+    pub(crate) fn of_65536(self) -> Self {
+        self.put_all(b"/65536")
+    }
+
     // The answer reports the first n bytes of the room that it was lent, and HEX shows them: no byte
     // that was not lent, whatever the answer says.
     pub(crate) fn shows(mut self, n: usize, room: &[u8]) -> Self {

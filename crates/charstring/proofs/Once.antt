@@ -65,7 +65,7 @@ stop-undo (At k t) = rw (eq-eqb t t refl) (ap (λ (j : Refusal). At j t) (refusa
 stop-undo (Alone k) = ap Alone (refusal-undo k)
 
 flattened-of : Answer Flattening → Flattened
-flattened-of (accepted x) = Accepted (x .size) (x .tokens)
+flattened-of (accepted x) = Accepted (x .size) (x .tokens) (x .advance)
 flattened-of (refused k v) =
     cond (eqb k 1) (BadGlobals (flaw-of (reasonOr 0 v) (entryOr 0 v))) (cond (eqb k 2) (BadLocals (flaw-of (reasonOr 0 v) (entryOr 0 v)))
     (cond (eqb k 13) (NoRoom (lengthOr 0 v) (tokensOr 0 v)) (Refused (stop-of k v))))
@@ -88,7 +88,7 @@ as-refused NoEndchar v = refl
 
 flattened-undo : (r : Flattened) → flattened-of (flattened r) ≡ r
 unfolding flattened-of tokensOr entryOr
-flattened-undo (Accepted n t) = refl
+flattened-undo (Accepted n t w) = refl
 flattened-undo (BadGlobals f) = ap BadGlobals (flaw-undo f)
 flattened-undo (BadLocals f) = ap BadLocals (flaw-undo f)
 flattened-undo (Refused (At k t)) = as-refused k (atToken t) ∙ ap Refused (stop-undo (At k t))

@@ -1,4 +1,4 @@
--- What `kind_of` answers. Assumes nothing.
+-- What `kind_of` and `takes_of` answer. Assumes nothing.
 use mathlib.Core.Path.{_≡_, refl, sym, ap, subst, _∙_}
 use mathlib.Core.List.{List, [], _∷_}
 use mathlib.Core.Bool.{Bool, true, false, _||_}
@@ -6,9 +6,10 @@ use lib.Dec.{eqb}
 use Prim.Native.Nat.{ℕ, zero, suc, _+_, _-_, _<_, _≤_}
 use native.Mathlib.Omega.{arith}
 use borrow.Author.Tests.{ne-eqb, eqb-true}
-use Rattle.reading.specs.Rules.{among, clearing, byteKind, escapedKind, kindBy}
+use Rattle.reading.specs.Rules.{among, clearing, byteKind, escapedKind, kindBy, byteTakes, type2Takes}
 use Rattle.reading.specs.declared.Operator.{Operator}
 use Rattle.reading.specs.declared.Kind.the-variants.{Clear, Unknown}
+use Rattle.reading.specs.declared.Takes.the-variants.{All}
 
 -- b is none of these, as the code's tests say it one behind the other
 abbrev Past : Type 0 → ℕ → List ℕ → Type 0
@@ -106,3 +107,35 @@ module _ (ends : Bool) (p : Operator) where
   pub byte-is : p .escaped ≡ false → byteKind ends (p .byte) ≡ kindBy ends p
   unfolding kindBy
   byte-is e = rw e
+
+-- ---- how many operands an operator takes
+
+-- a byte that is none of those before which a width may stand
+abbrev told : List ℕ
+told = 1 ∷ 3 ∷ 4 ∷ 14 ∷ 18 ∷ 19 ∷ 20 ∷ 21 ∷ 22 ∷ 23 ∷ []
+
+pub takes-all : (b : ℕ) → Other b told → All ≡ byteTakes b
+unfolding byteTakes
+takes-all b n =
+    let ((((((((((none, n1), n3), n4), n14), n18), n19), n20), n21), n22), n23) = n in
+    rw (
+      ne-eqb b 1 n1,
+      ne-eqb b 3 n3,
+      ne-eqb b 18 n18,
+      ne-eqb b 19 n19,
+      ne-eqb b 20 n20,
+      ne-eqb b 23 n23,
+      ne-eqb b 21 n21,
+      ne-eqb b 4 n4,
+      ne-eqb b 22 n22,
+      ne-eqb b 14 n14,
+    ) refl
+
+module _ (p : Operator) where
+  pub escaped-takes : p .escaped ≡ true → All ≡ type2Takes p
+  unfolding type2Takes
+  escaped-takes e = rw e
+
+  pub byte-takes : p .escaped ≡ false → byteTakes (p .byte) ≡ type2Takes p
+  unfolding type2Takes
+  byte-takes e = rw e

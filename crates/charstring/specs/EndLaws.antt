@@ -5,18 +5,21 @@ use Prim.Native.Nat.{ℕ, suc, _+_, _≤_, _<_}
 use native.Mathlib.Omega.{arith}
 use lib.ListN.{length, drop, length-append}
 use lib.Seq.{sets}
-use Rattle.reading.specs.Items.{bare}
+use mathlib.Core.Bool.{cond}
+use Rattle.reading.specs.Items.{bare, Left, said, byKind, leaves}
 use Rattle.reading.specs.Reading.{struck, back, ended, stopped, Run, State as Now, refuse, shows, returned as behind-return}
 use Rattle.reading.specs.Flat.{operatorBytes, spelled, flat}
 use Rattle.reading.specs.StepLaws.{returns, ends}
 use Rattle.reading.specs.Answers.{numberOf}
 use Rattle.reading.specs.declared.Refusal.{Refusal}
 use Rattle.reading.specs.declared.Operator.{Operator}
+use Rattle.reading.specs.declared.Advance.{Advance}
+use Rattle.reading.specs.declared.Kind.{Kind}
 use Rattle.reading.specs.declared.Kind.the-variants.{Return, End}
 use Rattle.charstring.specs.WordsLaws.{sets-begins}
 use Rattle.charstring.specs.States.{returned, finished}
-use Rattle.charstring.specs.Run.{AtOperator, Refuses, Begins, Repr, howOf, Setup, whole, Here, Done}
-use Rattle.charstring.specs.HereLaws.{stepped, counted-as, taken, led, halts, runs-out}
+use Rattle.charstring.specs.Run.{AtOperator, Refuses, Begins, Holds, Repr, howOf, settledAt, Setup, whole, Here, Done}
+use Rattle.charstring.specs.HereLaws.{settled-so, stepped, counted-as, taken, led, halts, runs-out}
 use Rattle.charstring.specs.declared.state.State.{State}
 use Rattle.charstring.specs.declared.stretch.Ending.{Ending}
 use Rattle.charstring.specs.declared.stretch.Ending.the-variants.{Back, Ended, Refused}
@@ -37,6 +40,7 @@ module _ (u : Setup) (stack out : List ℕ) (s : State) (i : ℕ) (h : Here u st
         tokens-are = ap (λ (y : Now). length (y .shown)) n ∙ r .tokens-are;
         length-is = ap (λ (y : Now). length (flat (struck (y .shown)))) n ∙ r .length-is;
         bytes = subst (λ (y : Now). Begins out (flat (struck (y .shown)))) (sym n) (r .bytes);
+        advance-is = ap (λ (y : Now). y .left .advance) n ∙ r .held .advance-is;
         on = λ z. subst (Repr (u .rules) stack out s) (sym n) r;
       }
 
@@ -57,6 +61,15 @@ module _ (u : Setup) (stack out : List ℕ) (s : State) (i : ℕ) (h : Here u st
     inside : i < length (u .cs)
     inside = let b = a .begun in omega (arith, b .ahead, b .inside)
 
+    -- behind a return the code holds the same
+    same-left : (x : Left) → Holds stack s x → Holds stack (returned s) x
+    same-left x q = record { ops = q .ops; hints-are = q .hints-are; mask-is = q .mask-is; settled-is = q .settled-is; advance-is = q .advance-is }
+
+    end-says : (x : Left) → u .rules .kind p ≡ End
+        → leaves (u .rules) (bare p) x .advance ≡ cond (x .settled) (x .advance) (said (u .rules .takes p) (x .operands))
+    unfolding leaves byKind
+    end-says x k = ap (λ (y : Kind). byKind (u .rules .takes p) y x .advance) k
+
     pub by-return : u .rules .kind p ≡ Return → EndsWith Back (returned s) out
     unfolding struck
     by-return k =
@@ -67,10 +80,8 @@ module _ (u : Setup) (stack out : List ℕ) (s : State) (i : ℕ) (h : Here u st
         let now-back : Repr (u .rules) stack out (returned s) (behind-return (h .now)) =
         record {
           room = r .room;
-          ops = r .ops;
-          hints-are = r .hints-are;
+          held = same-left (h .now .left) (r .held);
           hinted = r .hinted;
-          mask-is = r .mask-is;
           tokens-are = let q = r .tokens-are in omega arith;
           tail-is = r .tail-is;
           length-is = r .length-is;
@@ -82,19 +93,20 @@ module _ (u : Setup) (stack out : List ℕ) (s : State) (i : ℕ) (h : Here u st
           tokens-are = ap (λ (y : Now). length (y .shown)) same ∙ now-back .tokens-are;
           length-is = ap (λ (y : Now). length (flat (struck (y .shown)))) same ∙ r .length-is;
           bytes = subst (λ (y : Now). Begins out (flat (struck (y .shown)))) (sym same) (r .bytes);
+          advance-is = ap (λ (y : Now). y .left .advance) same ∙ r .held .advance-is;
           on = λ z. subst (Repr (u .rules) stack out (returned s)) (sym same) now-back;
         }
 
-    pub by-end : (length₁ : ℕ) (out₁ : List ℕ) → u .rules .kind p ≡ End → s .count < 4
+    pub by-end : (length₁ : ℕ) (w : Advance) (out₁ : List ℕ) → u .rules .kind p ≡ End → s .count < 4 → w ≡ settledAt (u .rules .takes p) stack s
         → out₁ ≡ sets out (s .length) (operatorBytes p) → length₁ ≡ s .length + length (operatorBytes p)
-        → EndsWith Ended (finished s length₁) out₁
+        → EndsWith Ended (finished s length₁ w) out₁
     unfolding struck flat spelled
-    by-end length₁ out₁ k l d long =
+    by-end length₁ w out₁ k l v d long =
         let g = ends p (drop j (u .cs)) (a .cut-is) k (subst (λ (n : ℕ). n < 4) (sym (counted-as u stack out s i h .count-is)) l) in
         let e = halts u stack out s i h inside _ _ (taken u stack out s i h (a .begun .within) _ g) in
         let r = h .repr in
         let f = flat (struck (h .now .shown)) in
-        let same : whole u .state ≡ shows (bare p) (h .now .left) (h .now) = ap (λ (x : Run). x .state) e in
+        let same : whole u .state ≡ shows (u .rules) (bare p) (h .now) = ap (λ (x : Run). x .state) e in
         let count : suc (length (h .now .shown)) ≡ s .tokens + 1 = let q = r .tokens-are in omega arith in
         let size : length (f ++ operatorBytes p) ≡ length₁ = let q = r .length-is in omega (arith, length-append f (operatorBytes p)) in
         record {
@@ -103,5 +115,6 @@ module _ (u : Setup) (stack out : List ℕ) (s : State) (i : ℕ) (h : Here u st
           length-is = ap (λ (y : Now). length (flat (struck (y .shown)))) same ∙ size;
           bytes = subst (λ (y : Now). Begins out₁ (flat (struck (y .shown)))) (sym same)
               (subst (λ (o : List ℕ). Begins o (f ++ operatorBytes p)) (sym d) (sets-begins out (s .length) (operatorBytes p) f (r .length-is) (r .bytes)));
+          advance-is = ap (λ (y : Now). y .left .advance) same ∙ end-says (h .now .left) k ∙ settled-so (u .rules .takes p) stack s (h .now .left) (r .held) ∙ sym v;
           on = λ z. absurd (ended-not-back (sym (ap (λ (x : Run). x .how) e) ∙ z));
         }

@@ -118,10 +118,8 @@ repr-closed : (u : Setup) (stack out : List ℕ) (s : State) (t : Now) → Repr 
 repr-closed u stack out s t r =
     record {
       room = r .room;
-      ops = r .ops;
-      hints-are = r .hints-are;
+      held = r .held;
       hinted = r .hinted;
-      mask-is = r .mask-is;
       tokens-are = r .tokens-are;
       tail-is = r .tail-is;
       length-is = r .length-is;
@@ -143,7 +141,7 @@ module _ (u : Setup) (stack out : List ℕ) (s : State) (i : ℕ) (h : Here u st
   top = unpackOf (getD stack (s .count - 1) 0)
 
   ops-are : h .now .left .operands ≡ top ∷ stackOf stack (s .count - 1)
-  ops-are = h .repr .ops ∙ stack-last stack (s .count) (a .3)
+  ops-are = h .repr .held .ops ∙ stack-last stack (s .count) (a .3)
 
   ends-is : endsInOperand (struck (h .now .shown)) ≡ ltb 0 (s .tail)
   ends-is = ends-tail (struck (h .now .shown)) ∙ ap (ltb 0) (h .repr .tail-is)
@@ -238,10 +236,15 @@ module _ (u : Setup) (stack out : List ℕ) (s : State) (i : ℕ) (h : Here u st
         let g = drop 1 (struck (h .now .shown)) in
         record {
           room = let q = r .room in omega arith;
-          ops = ap (drop 1) ops-are;
-          hints-are = r .hints-are;
+          held =
+              record {
+                ops = ap (drop 1) ops-are;
+                hints-are = r .held .hints-are;
+                mask-is = r .held .mask-is;
+                settled-is = r .held .settled-is;
+                advance-is = r .held .advance-is;
+              };
           hinted = r .hinted;
-          mask-is = r .mask-is;
           tokens-are = let q = r .tokens-are in omega arith;
           tail-is = let q : suc (tailOf g) ≡ s .tail = sym (ap tailOf last) ∙ r .tail-is in omega arith;
           length-is = let q = r .length-is in let k = long-is in omega arith;

@@ -1,5 +1,6 @@
 -- Where the code stands in a string: one token leads on, ends the string, or none is left. Assumes nothing.
 use mathlib.Core.Path.{_≡_, refl, sym, ap, subst, _∙_}
+use mathlib.Core.Bool.{Bool, cond}
 use mathlib.Core.List.{List, [], _∷_}
 use Prim.Native.Nat.{ℕ, zero, suc, _-_, _*_, _≤_, _<_, zero-le}
 use native.Mathlib.Nat.{le-refl, mul-le-mul}
@@ -7,7 +8,7 @@ use native.Mathlib.Omega.{arith}
 use lib.ListN.{length, drop, length-drop}
 use Rattle.reading.specs.Rules.{Rules}
 use Rattle.reading.specs.Tokens.{Bytes}
-use Rattle.reading.specs.Items.{Item, operand, bare, masked, Left, leaves, leftBy}
+use Rattle.reading.specs.Items.{Item, operand, bare, masked, Left, said, leaves, leftBy}
 use Rattle.reading.specs.Reading.{struck, Ending as How, back, Run, State as Now, Step, halt, go, onToken, after, tokensOf, read}
 use Rattle.reading.specs.StepLaws.{Goes, token-goes}
 use Rattle.reading.specs.RunLaws.{Led}
@@ -17,7 +18,10 @@ use Rattle.reading.specs.CutLaws.{bytes-drop}
 use Rattle.reading.specs.StraightLaws.{run-step}
 use Rattle.reading.specs.SizeLaws.{longestItem, valid-most, struck-fewer}
 use Rattle.charstring.specs.WordsLaws.{stack-length}
-use Rattle.charstring.specs.Run.{Counts, tailOf, Repr, Setup, below, whole, onwards, Here}
+use Rattle.charstring.specs.Run.{Counts, tailOf, Holds, Repr, settledAt, Setup, below, whole, onwards, Here}
+use Rattle.number.specs.declared.Operand.{Operand}
+use Rattle.reading.specs.declared.Takes.{Takes}
+use Rattle.reading.specs.declared.Advance.{Advance}
 use Rattle.charstring.specs.declared.state.State.{State}
 
 -- ---- the code's numbers
@@ -29,14 +33,22 @@ tail-waits rules (operand o ∷ f) = let k = tail-waits rules f in omega arith
 tail-waits rules (bare p ∷ f) = zero-le
 tail-waits rules (masked p m ∷ f) = zero-le
 
+-- the advance width behind an operator is what the code makes it
+pub settled-so : (takes : Takes) (stack : List ℕ) (s : State) (x : Left) → Holds stack s x
+    → cond (x .settled) (x .advance) (said takes (x .operands)) ≡ settledAt takes stack s
+settled-so takes stack s x q =
+    ap (λ (b : Bool). cond b (x .advance) (said takes (x .operands))) (q .settled-is)
+    ∙ ap (λ (w : Advance). cond (s .settled) w (said takes (x .operands))) (q .advance-is)
+    ∙ ap (λ (ops : List Operand). cond (s .settled) (s .advance) (said takes ops)) (q .ops)
+
 module _ (rules : Rules) (stack out : List ℕ) (s : State) (t : Now) (r : Repr rules stack out s t) where
   pub counts-of : Counts t s
   counts-of =
       record {
         tokens-are = r .tokens-are;
-        count-is = ap length (r .ops) ∙ stack-length stack (s .count);
-        hints-are = r .hints-are;
-        mask-is = r .mask-is;
+        count-is = ap length (r .held .ops) ∙ stack-length stack (s .count);
+        hints-are = r .held .hints-are;
+        mask-is = r .held .mask-is;
       }
 
   -- the operands that stand last in the flat string are on the stack

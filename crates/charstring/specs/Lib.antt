@@ -2,6 +2,7 @@ pub mod Words
 pub mod States
 pub mod Run
 pub mod WordsLaws
+pub mod AdvanceLaws
 pub mod LookLaws
 pub mod HereLaws
 pub mod TurnLaws

@@ -12,7 +12,7 @@ use Rattle.number.specs.declared.Operand.{Operand}
 use Rattle.reading.specs.Rules.{Rules}
 use Rattle.reading.specs.Lists.{Lists, Subrs, listed}
 use Rattle.reading.specs.Tokens.{number, operator, token, lacking, cut}
-use Rattle.reading.specs.Items.{Left, counted, atMask, leftOver}
+use Rattle.reading.specs.Items.{Left, counted, firstMask, atMask, leftOver}
 use Rattle.reading.specs.Reading.{State as Now, refuse, onNumber, onStem, onMask, onEnd, onCall, onOperator, onCut, onToken}
 use Rattle.reading.specs.declared.Operator.{Operator}
 use Rattle.reading.specs.declared.Which.{Which}
@@ -80,7 +80,7 @@ module _ (rules : Rules) (n j : ℕ) (p : Operator) (s : State) where
 
   mask-first : s .mask ≡ 0 → AtMask (s .hints + s .count / 2) ((s .hints + s .count / 2 + 7) / 8)
   mask-first z t c =
-      let e : atMask (t .left) ≡ record { operands = []; hints = counted (t .left) .hints; mask = (counted (t .left) .hints + 7) / 8 }
+      let e : atMask (t .left) ≡ firstMask (t .left)
       = rw (eq-eqb (t .left .mask) 0 (c .mask-is ∙ z)) in
       (ap (λ (x : Left). x .hints) e ∙ hints-now t c, ap (λ (x : Left). x .mask) e ∙ ap (λ (m : ℕ). (m + 7) / 8) (hints-now t c))
 

@@ -13,7 +13,7 @@ use Rattle.index.specs.Index.{extent}
 use Rattle.reading.specs.Rules.{Rules, meant}
 use Rattle.reading.specs.Lists.{Lists, countIn, listsOf}
 use Rattle.reading.specs.Tokens.{Bytes, number, operator, token, cut}
-use Rattle.reading.specs.Items.{Item, operand, bare, masked}
+use Rattle.reading.specs.Items.{Item, operand, bare, masked, Left, said}
 use Rattle.reading.specs.Reading.{struck, Ending as How, back, ended, stopped, Run, State as Now, refuse, onOperator, onToken, tokensOf, read}
 use Rattle.reading.specs.Flat.{flat}
 use Rattle.reading.specs.Answers.{numberOf}
@@ -23,6 +23,8 @@ use Rattle.reading.specs.declared.Refusal.{Refusal}
 use Rattle.reading.specs.declared.Stopped.{Stopped}
 use Rattle.reading.specs.declared.Stopped.the-variants.{At, Alone}
 use Rattle.reading.specs.declared.Operator.{Operator}
+use Rattle.reading.specs.declared.Takes.{Takes}
+use Rattle.reading.specs.declared.Advance.{Advance}
 use Rattle.reading.specs.declared.Which.{Which}
 use Rattle.reading.specs.declared.Which.the-variants.{Local, Global}
 use Rattle.reading.specs.declared.Kind.the-variants.{Stem, Clear, Mask, Call, Return, End}
@@ -137,12 +139,18 @@ tailOf (operand o ∷ f) = suc (tailOf f)
 tailOf (bare p ∷ f) = 0
 tailOf (masked p m ∷ f) = 0
 
+-- the code holds what the items left
+pub record Holds (stack : List ℕ) (s : State) (x : Left) : Type 0 where
+  pub ops : x .operands ≡ stackOf stack (s .count)
+  pub hints-are : x .hints ≡ s .hints
+  pub mask-is : x .mask ≡ s .mask
+  pub settled-is : x .settled ≡ s .settled
+  pub advance-is : x .advance ≡ s .advance
+
 pub record Repr (rules : Rules) (stack out : List ℕ) (s : State) (t : Now) : Type 0 where
   pub room : s .count ≤ length stack
-  pub ops : t .left .operands ≡ stackOf stack (s .count)
-  pub hints-are : t .left .hints ≡ s .hints
+  pub held : Holds stack s (t .left)
   pub hinted : s .hints ≤ rules .hints
-  pub mask-is : t .left .mask ≡ s .mask
   pub tokens-are : length (t .shown) ≡ s .tokens
   pub tail-is : tailOf (struck (t .shown)) ≡ s .tail
   pub length-is : length (flat (struck (t .shown))) ≡ s .length
@@ -153,6 +161,10 @@ abbrev pub howOf : Ending → How
 howOf Back = back
 howOf Ended = ended
 howOf (Refused k) = stopped (numberOf k)
+
+-- the advance width behind an operator that takes so many operands, as the code settles it or lets it be
+abbrev pub settledAt : Takes → List ℕ → State → Advance
+settledAt takes stack s = cond (s .settled) (s .advance) (said takes (stackOf stack (s .count)))
 
 -- ---- a string and what it is run with
 
@@ -194,6 +206,7 @@ pub record Done (rules : Rules) (stack₁ out₁ : List ℕ) (r : Ran) (x : Run)
   pub tokens-are : length (x .state .shown) ≡ r .st .tokens
   pub length-is : length (flat (struck (x .state .shown))) ≡ r .st .length
   pub bytes : Begins out₁ (flat (struck (x .state .shown)))
+  pub advance-is : x .state .left .advance ≡ r .st .advance
   pub on : x .how ≡ back → Repr rules stack₁ out₁ (r .st) (x .state)
 
 -- the code's numbers have room in their types and in the stack

@@ -10,16 +10,17 @@ use lib.Seq.{sets, length-take-le}
 use Rattle.number.specs.Number.{charstringRows}
 use Rattle.number.specs.Written.{spelling}
 use Rattle.number.specs.declared.Operand.{Operand}
-use Rattle.reading.specs.Rules.{meant}
+use Rattle.reading.specs.Rules.{type2Takes, meant}
 use Rattle.reading.specs.Flat.{operatorBytes}
 use Rattle.reading.specs.SizeLaws.{longestItem}
+use Rattle.reading.specs.declared.Advance.{Advance}
 use Rattle.reading.specs.declared.Refusal.{Refusal}
 use Rattle.reading.specs.declared.Operator.{Operator}
 use Rattle.reading.specs.declared.Which.{Which}
 use Rattle.charstring.specs.Words.{unpackOf, shortOf}
 use Rattle.charstring.specs.WordsLaws.{sets-append}
 use Rattle.charstring.specs.States.{pushed, cleared, masked, returned, finished}
-use Rattle.charstring.specs.Run.{Looked, Setup, Here, Roomy, Ground, upon, Standing, StretchesTo}
+use Rattle.charstring.specs.Run.{Looked, settledAt, Setup, Here, Roomy, Ground, upon, Standing, StretchesTo}
 use Rattle.charstring.specs.HereLaws.{tail-few, small}
 use Rattle.charstring.specs.TurnLaws.{by-push, by-clear, by-mask}
 use Rattle.charstring.specs.EndLaws.{by-out, by-bad, by-return, by-end}
@@ -115,18 +116,18 @@ module _ (cs : List ℕ) (by : Limits) (stack₀ out₀ : List ℕ) (s₀ : Stat
         (λ g y. by-push (upon cs by g) stack out s i (h .stands g y) words (shortOf b x) j w (a .1 .others) out₁ e (a .0) v
         (d ∙ ap (λ (bs : List ℕ). sets out (s .length) bs) (a .1 .bytes)) (q ∙ ap (λ (n : ℕ). s .length + n) (sym (a .1 .long))))
 
-    pub arm-clear : (p : Operator) (j x e : ℕ) (out₁ : List ℕ) (s₁ : State) → Asks (Clears j x p)
+    pub arm-clear : (p : Operator) (j x e : ℕ) (w : Advance) (out₁ : List ℕ) (s₁ : State) → Asks (Clears j x p) → w ≡ settledAt (type2Takes p) stack s
         → out₁ ≡ sets out (s .length) (operatorBytes p)
-        → e ≡ s .length + length (operatorBytes p) → s₁ ≡ cleared s x e → Stands stack out₁ s₁ j
-    arm-clear p j x e out₁ s₁ a d q same =
-        becomes _ _ _ _ j same (λ g y. by-clear (upon cs by g) stack out s i (h .stands g y) words p j x e out₁ (a .0) (a .1) d q)
+        → e ≡ s .length + length (operatorBytes p) → s₁ ≡ cleared s x e w → Stands stack out₁ s₁ j
+    arm-clear p j x e w out₁ s₁ a v d q same =
+        becomes _ _ _ _ j same (λ g y. by-clear (upon cs by g) stack out s i (h .stands g y) words p j x e w out₁ (a .0) (a .1) v d q)
 
-    pub arm-mask : (p : Operator) (b d c x e₁ e : ℕ) (out₁ out₂ : List ℕ) (s₁ : State)
-        → Asks (Masks b d c x p) → out₁ ≡ sets out (s .length) (operatorBytes p)
+    pub arm-mask : (p : Operator) (b d c x e₁ e : ℕ) (w : Advance) (out₁ out₂ : List ℕ) (s₁ : State)
+        → Asks (Masks b d c x p) → w ≡ settledAt (type2Takes p) stack s → out₁ ≡ sets out (s .length) (operatorBytes p)
         → e₁ ≡ s .length + length (operatorBytes p) → out₂ ≡ sets out₁ e₁ (take (d - b) (drop b cs))
         → e ≡ e₁ + length (take (d - b) (drop b cs))
-        → s₁ ≡ masked s c x (d - b) e → Stands stack out₂ s₁ d
-    arm-mask p b d c x e₁ e out₁ out₂ s₁ a w₁ q₁ w₂ q same =
+        → s₁ ≡ masked s c x (d - b) e w → Stands stack out₂ s₁ d
+    arm-mask p b d c x e₁ e w out₁ out₂ s₁ a v w₁ q₁ w₂ q same =
         let bs = take (d - b) (drop b cs) in
         let stored : out₂ ≡ sets out (s .length) (operatorBytes p ++ bs) =
         w₂ ∙ ap (λ (n : ℕ). sets out₁ n bs) q₁ ∙ ap (λ (l : List ℕ). sets l (s .length + length (operatorBytes p)) bs) w₁
@@ -134,7 +135,7 @@ module _ (cs : List ℕ) (by : Limits) (stack₀ out₀ : List ℕ) (s₀ : Stat
         let long : e ≡ s .length + length (operatorBytes p) + (d - b) =
         q ∙ ap (λ (n : ℕ). n + length bs) q₁ ∙ ap (λ (n : ℕ). s .length + length (operatorBytes p) + n) (part-long cs b d (a .3) (a .4)) in
         becomes _ _ _ _ d same
-        (λ g y. by-mask (upon cs by g) stack out s i (h .stands g y) words p b d c x e out₂ (a .0) (a .1) (a .2) (a .3) (a .4) (a .5) stored long)
+        (λ g y. by-mask (upon cs by g) stack out s i (h .stands g y) words p b d c x e w out₂ (a .0) (a .1) (a .2) (a .3) (a .4) (a .5) v stored long)
 
     -- ---- the ends
 
@@ -156,11 +157,11 @@ module _ (cs : List ℕ) (by : Limits) (stack₀ out₀ : List ℕ) (s₀ : Stat
     unfolding StretchesTo
     arm-return r e a = given r _ out e (λ g y. by-return (upon cs by g) stack out s i (h .stands g y) (a .0) (a .1) (a .2) (a .3))
 
-    pub arm-end : (p : Operator) (n : ℕ) (out₁ : List ℕ) (r : Stretched) → r ≡ record { st = finished s n; stop = Finished Ended } → Asks (Ends p)
-        → out₁ ≡ sets out (s .length) (operatorBytes p) → n ≡ s .length + length (operatorBytes p) → Gives r out₁
+    pub arm-end : (p : Operator) (n : ℕ) (w : Advance) (out₁ : List ℕ) (r : Stretched) → r ≡ record { st = finished s n w; stop = Finished Ended }
+        → Asks (Ends p) → w ≡ settledAt (type2Takes p) stack s → out₁ ≡ sets out (s .length) (operatorBytes p) → n ≡ s .length + length (operatorBytes p) → Gives r out₁
     unfolding StretchesTo
-    arm-end p n out₁ r e a d q =
-        given r _ out₁ e (λ g y. by-end (upon cs by g) stack out s i (h .stands g y) p (a .0) (a .1) n out₁ (a .2) (a .3) d q)
+    arm-end p n w out₁ r e a v d q =
+        given r _ out₁ e (λ g y. by-end (upon cs by g) stack out s i (h .stands g y) p (a .0) (a .1) n w out₁ (a .2) (a .3) v d q)
 
     pub arm-call : (j : ℕ) (w : Which) → Asks (Calls j w) → Gives (record { st = s; stop = Calling j w }) out
     unfolding StretchesTo

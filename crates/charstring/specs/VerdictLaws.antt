@@ -21,6 +21,7 @@ use Rattle.reading.specs.declared.Rules.{Rules as CodeRules}
 use Rattle.reading.specs.declared.Profile.{Profile}
 use Rattle.reading.specs.declared.Profile.the-variants.{Plain, Strict}
 use Rattle.reading.specs.declared.Refusal.{Refusal}
+use Rattle.reading.specs.declared.Advance.{Advance}
 use Rattle.reading.specs.declared.Stopped.{Stopped}
 use Rattle.reading.specs.declared.Stopped.the-variants.{At, Alone}
 use Rattle.charstring.specs.Words.{stackOf}
@@ -39,10 +40,8 @@ unfolding stackOf flat struck tailOf leftBy
 begun-is rules stack out =
     record {
       room = zero-le;
-      ops = refl;
-      hints-are = refl;
+      held = record { ops = refl; hints-are = refl; mask-is = refl; settled-is = refl; advance-is = refl };
       hinted = zero-le;
-      mask-is = refl;
       tokens-are = refl;
       tail-is = refl;
       length-is = refl;
@@ -106,14 +105,15 @@ told-so k t = go (leb (numberOf k) 12)
 
 module _ (rules : Rules) (stack₁ out₁ : List ℕ) (r : Ran) (x : Run) (d : Done rules stack₁ out₁ r x) where
   abbrev measured : Flattening
-  measured = record { size = r .st .length; tokens = r .st .tokens }
+  measured = record { size = r .st .length; tokens = r .st .tokens; advance = r .st .advance }
 
   flat-so : AcceptedBy rules (x .how) → accepted measured ≡ verdict rules x
   unfolding verdict
   flat-so a =
       let count : r .st .tokens ≡ tokens x = sym (d .tokens-are) ∙ sym (accepted-tokens (x .how) _ (came-to-end rules (x .how) a)) in
-      ap (λ (n : ℕ). accepted (record { size = n; tokens = r .st .tokens })) (sym (d .length-is))
-      ∙ ap (λ (n : ℕ). accepted (record { size = length (flatOf x); tokens = n })) count
+      ap (λ (n : ℕ). accepted (record { size = n; tokens = r .st .tokens; advance = r .st .advance })) (sym (d .length-is))
+      ∙ ap (λ (n : ℕ). accepted (record { size = length (flatOf x); tokens = n; advance = r .st .advance })) count
+      ∙ ap (λ (w : Advance). accepted (record { size = length (flatOf x); tokens = tokens x; advance = w })) (sym (d .advance-is))
       ∙ ap toldIn (sym (judged-accepted rules x a))
 
   back-is : r .how ≡ Back → back ≡ x .how
@@ -159,10 +159,12 @@ module _ (rules : Rules) (out : List ℕ) (x : Run) where
   unfolding outcome verdict into
   by-refusal k v e = ap (into out) (sym (mapped-refused (λ (y : Ready Flattening). y .told) (judged rules x) k v (sym e)))
 
-  module _ (n t : ℕ) (e : accepted (record { size = n; tokens = t }) ≡ verdict rules x) where
+  module _ (n t : ℕ) (w : Advance) (e : accepted (record { size = n; tokens = t; advance = w }) ≡ verdict rules x) where
+    abbrev told : Flattening
+    told = record { size = n; tokens = t; advance = w }
+
     record Is : Type 0 where
-      size : n ≡ length (flatOf x)
-      count : t ≡ tokens x
+      same : told ≡ flatReady x .told
       judged-is : judged rules x ≡ accepted (flatReady x)
 
     is : Is
@@ -170,37 +172,36 @@ module _ (rules : Rules) (out : List ℕ) (x : Run) where
     is = go (judged rules x) refl (judged-so rules x) e
       where
         go : (y : Answer (Ready Flattening)) → judged rules x ≡ y → Judged rules x y
-            → accepted (record { size = n; tokens = t }) ≡ toldIn y → Is
-        go y q (takes a) v =
-            let same = accepted-same v in
-            record { size = ap (λ (z : Flattening). z .size) same; count = ap (λ (z : Flattening). z .tokens) same; judged-is = q }
+            → accepted told ≡ toldIn y → Is
+        go y q (takes a) v = record { same = accepted-same v; judged-is = q }
         go y q (turns-down k b) v = refused-accepted (sym v)
+
+    size-is : n ≡ length (flatOf x)
+    size-is = ap (λ (z : Flattening). z .size) (is .same)
 
     pub by-short : length out < n → Answers (refused 13 (needingAt n t)) out
     unfolding outcome
     by-short l =
         let i = is in
-        ap (λ (m : ℕ). leaving (refused 13 (needingAt m t)) out) (i .size)
-        ∙ ap (λ (m : ℕ). leaving (refused 13 (needingAt (length (flatOf x)) m)) out) (i .count)
-        ∙ sym (into-short out (flatReady x) (let s = i .size in omega arith)) ∙ ap (into out) (sym (i .judged-is))
+        ap (λ (z : Flattening). leaving (refused 13 (needingAt (z .size) (z .tokens))) out) (i .same)
+        ∙ sym (into-short out (flatReady x) (let s = size-is in omega arith)) ∙ ap (into out) (sym (i .judged-is))
 
-    by-flat : n ≤ length out → (l : List ℕ) → l ≡ flatOf x ++ drop n out → Answers (accepted (record { size = n; tokens = t })) l
+    by-flat : n ≤ length out → (l : List ℕ) → l ≡ flatOf x ++ drop n out → Answers (accepted told) l
     unfolding outcome
     by-flat h l q =
         let i = is in
-        ap (leaving (accepted (record { size = n; tokens = t }))) q
-        ∙ ap (λ (m : ℕ). leaving (accepted (record { size = m; tokens = t })) (flatOf x ++ drop m out)) (i .size)
-        ∙ ap (λ (m : ℕ). leaving (accepted (record { size = length (flatOf x); tokens = m })) (flatOf x ++ drop (length (flatOf x)) out)) (i .count)
-        ∙ sym (into-fits out (flatReady x) (let s = i .size in omega arith)) ∙ ap (into out) (sym (i .judged-is))
+        ap (leaving (accepted told)) q
+        ∙ ap (λ (z : Flattening). leaving (accepted z) (flatOf x ++ drop (z .size) out)) (i .same)
+        ∙ sym (into-fits out (flatReady x) (let s = size-is in omega arith)) ∙ ap (into out) (sym (i .judged-is))
 
     -- the flat string was held, and its n bytes are copied
     pub by-held : n ≤ length out → (m : List ℕ) → Begins m (flatOf x) → n ≤ length m → (l : List ℕ) → l ≡ take n m ++ drop n out
-        → Answers (accepted (record { size = n; tokens = t })) l
-    by-held h m w r l q = by-flat h l (q ∙ ap (λ (f : List ℕ). f ++ drop n out) (begins-take n m (flatOf x) w (sym (is .size)) r))
+        → Answers (accepted told) l
+    by-held h m b r l q = by-flat h l (q ∙ ap (λ (f : List ℕ). f ++ drop n out) (begins-take n m (flatOf x) b (sym size-is) r))
 
     -- it was written to the first n bytes of the room
     pub by-part : n ≤ length out → (m : List ℕ) → Begins m (flatOf x) → length m ≡ length (take n out)
-        → Answers (accepted (record { size = n; tokens = t })) (m ++ drop n out)
-    by-part h m w e =
+        → Answers (accepted told) (m ++ drop n out)
+    by-part h m b e =
         let z : length (take n out) ≡ n = length-take-le n out h in
-        by-held h m w (omega arith) _ (ap (λ (f : List ℕ). f ++ drop n out) (sym (take-all n m (omega arith))))
+        by-held h m b (omega arith) _ (ap (λ (f : List ℕ). f ++ drop n out) (sym (take-all n m (omega arith))))

@@ -66,7 +66,7 @@ pub fn write<'a>(
 {
     let mut held = [0u8; 2048];
     let verdict = draft(cs, globals, locals, profile, budget, &mut held);
-    let Flattened::Accepted(n, tokens) = verdict else {
+    let Flattened::Accepted(n, tokens, _) = verdict else {
         return verdict;
     };
     if out.len() < n {
@@ -77,7 +77,7 @@ pub fn write<'a>(
     } else {
         draft(cs, globals, locals, profile, budget, &mut out[..n]);
     }
-    Flattened::Accepted(n, tokens)
+    verdict
 }
 
 // The verdict on a charstring, without writing. An entry that a list lacks answers 9.
@@ -151,14 +151,15 @@ fn draft_by<'a>(
     );
     let how = r.how;
     let st = r.st;
+    let advance = st.advance;
     match how {
         Ending::Back => {
             if rules.finished {
                 return Flattened::Refused(Stopped::Alone(Refusal::NoEndchar));
             }
-            Flattened::Accepted(st.length, st.tokens)
+            Flattened::Accepted(st.length, st.tokens, advance)
         }
-        Ending::Ended => Flattened::Accepted(st.length, st.tokens),
+        Ending::Ended => Flattened::Accepted(st.length, st.tokens, advance),
         Ending::Refused(k) => Flattened::Refused(stopped_by(k, st.tokens)),
     }
 }

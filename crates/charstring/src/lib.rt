@@ -1,4 +1,5 @@
 // Flattening a Type 2 charstring.
+mod advance;
 mod argstack;
 mod charstring;
 mod flattening;

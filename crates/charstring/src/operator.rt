@@ -1,10 +1,11 @@
 // What an operator is, with `return` and `endchar` or without them.
 use reading::Kind;
 use reading::Operator;
+use reading::Takes;
 use reading::Which;
 ghost use mathlib.Core.Path.{_≡_};
 ghost use mathlib.Core.Bool.{cond};
-ghost use Rattle.reading.specs.Rules.{among, clearing, byteKind, escapedKind, kindBy};
+ghost use Rattle.reading.specs.Rules.{among, clearing, byteKind, escapedKind, kindBy, byteTakes, type2Takes};
 ghost use Rattle.reading.specs.declared.Kind.the-variants.{Unknown};
 
 pub(crate) fn kind_of(p: Operator, ends: bool) -> Kind
@@ -77,5 +78,34 @@ fn escaped_kind(b: u8) -> Kind
     match b {
         34..=37 => Kind::Clear,
         _ => Kind::Unknown,
+    }
+}
+
+// How many operands an operator takes itself.
+pub(crate) fn takes_of(p: Operator) -> Takes
+    ensures { λ r. ⌜ r ≡ type2Takes p ⌝ }
+{
+    if p.escaped {
+        return Takes::All;
+    }
+    byte_takes(p.byte)
+}
+
+// An operator of one byte.
+fn byte_takes(b: u8) -> Takes
+    ensures { λ r. ⌜ r ≡ byteTakes b ⌝ }
+{
+    match b {
+        1 => Takes::Pairs,
+        3 => Takes::Pairs,
+        4 => Takes::UpTo(1),
+        14 => Takes::UpTo(0),
+        18 => Takes::Pairs,
+        19 => Takes::Pairs,
+        20 => Takes::Pairs,
+        21 => Takes::UpTo(2),
+        22 => Takes::UpTo(1),
+        23 => Takes::Pairs,
+        _ => Takes::All,
     }
 }

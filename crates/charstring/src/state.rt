@@ -1,4 +1,5 @@
 // The running state, but for the operands, which stand in the lent stack, and how each token changes it.
+use reading::Advance;
 ghost use mathlib.Core.Path.{_≡_};
 ghost use Prim.Native.Nat.{_+_, _<_, _≤_};
 ghost use Rattle.charstring.specs.States.{begun, pushed, cleared, masked, returned, finished, entered};
@@ -15,6 +16,9 @@ pub(crate) struct State {
     pub tokens: u32,
     // The length of the flat string.
     pub length: usize,
+    // Whether an operator has settled the advance width.
+    pub settled: bool,
+    pub advance: Advance,
 }
 
 // Before the first token.
@@ -28,6 +32,8 @@ pub(crate) fn at_start() -> State
         mask: 0,
         tokens: 0,
         length: 0,
+        settled: false,
+        advance: Advance::Default,
     }
 }
 
@@ -36,6 +42,7 @@ pub(crate) fn push(s: State, length: usize) -> State
     requires { ⌜ (s .count < 65536) × (s .tail ≤ s .count) × (s .tokens < 4294967295) ⌝ }
     ensures { λ r. ⌜ r ≡ pushed s length ⌝ }
 {
+    let advance = s.advance;
     State {
         count: s.count + 1,
         tail: s.tail + 1,
@@ -43,13 +50,15 @@ pub(crate) fn push(s: State, length: usize) -> State
         mask: s.mask,
         tokens: s.tokens + 1,
         length,
+        settled: s.settled,
+        advance,
     }
 }
 
-// Behind an operator that clears the stack, with so many hints.
-pub(crate) fn clear(s: State, hints: usize, length: usize) -> State
+// Behind an operator that clears the stack, with so many hints and this advance width.
+pub(crate) fn clear(s: State, hints: usize, length: usize, advance: Advance) -> State
     requires { ⌜ s .tokens < 4294967295 ⌝ }
-    ensures { λ r. ⌜ r ≡ cleared s hints length ⌝ }
+    ensures { λ r. ⌜ r ≡ cleared s hints length advance ⌝ }
 {
     State {
         count: 0,
@@ -58,13 +67,22 @@ pub(crate) fn clear(s: State, hints: usize, length: usize) -> State
         mask: s.mask,
         tokens: s.tokens + 1,
         length,
+        settled: true,
+        advance,
     }
 }
 
 // Behind a mask of `bytes` bytes, which leaves `count` operands on the stack.
-pub(crate) fn mask(s: State, count: usize, hints: usize, bytes: usize, length: usize) -> State
+pub(crate) fn mask(
+    s: State,
+    count: usize,
+    hints: usize,
+    bytes: usize,
+    length: usize,
+    advance: Advance,
+) -> State
     requires { ⌜ s .tokens < 4294967295 ⌝ }
-    ensures { λ r. ⌜ r ≡ masked s count hints bytes length ⌝ }
+    ensures { λ r. ⌜ r ≡ masked s count hints bytes length advance ⌝ }
 {
     State {
         count,
@@ -73,6 +91,8 @@ pub(crate) fn mask(s: State, count: usize, hints: usize, bytes: usize, length: u
         mask: bytes,
         tokens: s.tokens + 1,
         length,
+        settled: true,
+        advance,
     }
 }
 
@@ -81,6 +101,7 @@ pub(crate) fn go_back(s: State) -> State
     requires { ⌜ s .tokens < 4294967295 ⌝ }
     ensures { λ r. ⌜ r ≡ returned s ⌝ }
 {
+    let advance = s.advance;
     State {
         count: s.count,
         tail: s.tail,
@@ -88,13 +109,15 @@ pub(crate) fn go_back(s: State) -> State
         mask: s.mask,
         tokens: s.tokens + 1,
         length: s.length,
+        settled: s.settled,
+        advance,
     }
 }
 
 // Behind an endchar.
-pub(crate) fn finish(s: State, length: usize) -> State
+pub(crate) fn finish(s: State, length: usize, advance: Advance) -> State
     requires { ⌜ s .tokens < 4294967295 ⌝ }
-    ensures { λ r. ⌜ r ≡ finished s length ⌝ }
+    ensures { λ r. ⌜ r ≡ finished s length advance ⌝ }
 {
     State {
         count: s.count,
@@ -103,6 +126,8 @@ pub(crate) fn finish(s: State, length: usize) -> State
         mask: s.mask,
         tokens: s.tokens + 1,
         length,
+        settled: true,
+        advance,
     }
 }
 
@@ -111,6 +136,7 @@ pub(crate) fn enter(s: State, size: usize) -> State
     requires { ⌜ (0 < s .count) × (0 < s .tail) × (s .tokens < 4294967295) × (size ≤ s .length) ⌝ }
     ensures { λ r. ⌜ r ≡ entered s size ⌝ }
 {
+    let advance = s.advance;
     State {
         count: s.count - 1,
         tail: s.tail - 1,
@@ -118,5 +144,7 @@ pub(crate) fn enter(s: State, size: usize) -> State
         mask: s.mask,
         tokens: s.tokens + 1,
         length: s.length - size,
+        settled: s.settled,
+        advance,
     }
 }

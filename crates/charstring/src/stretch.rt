@@ -1,4 +1,5 @@
 // A stretch of tokens without a call: numbers and operators are run, and their bytes stored as far as the room goes.
+use crate::advance::advance_at;
 use crate::argstack::pack;
 use crate::argstack::pack_short;
 use crate::look::Limits;
@@ -69,7 +70,8 @@ pub(crate) fn stretch(
             }
             Request::Clears(next, hints, p) => {
                 let length = put_operator(out, st.length, p);
-                st = clear(st, hints, length);
+                let advance = advance_at(p, st, stack);
+                st = clear(st, hints, length, advance);
                 i = next;
             }
             Request::Push(next, o) => {
@@ -82,7 +84,8 @@ pub(crate) fn stretch(
             Request::Masks(a, b, count, hints, p) => {
                 let behind = put_operator(out, st.length, p);
                 let length = put_bytes(out, behind, &cs[a..b]);
-                st = mask(st, count, hints, b - a, length);
+                let advance = advance_at(p, st, stack);
+                st = mask(st, count, hints, b - a, length, advance);
                 i = b;
             }
             Request::Calls(next, which) => {
@@ -96,7 +99,8 @@ pub(crate) fn stretch(
             }
             Request::Ends(p) => {
                 let length = put_operator(out, st.length, p);
-                return ended(finish(st, length), Ending::Ended);
+                let advance = advance_at(p, st, stack);
+                return ended(finish(st, length, advance), Ending::Ended);
             }
             Request::Out => {
                 return ended(st, Ending::Back);

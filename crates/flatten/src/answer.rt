@@ -6,6 +6,8 @@ use index::Absence;
 use index::Flaw;
 use libc::STDERR_FILENO;
 use libc::STDOUT_FILENO;
+use number::Operand;
+use reading::Advance;
 use reading::Flattened;
 use reading::Refusal;
 use reading::Stopped;
@@ -61,7 +63,7 @@ pub(crate) fn tell_long() {
 fn tell_flattened(flattened: Flattened, room: &[u8]) {
     count(flattened.number() as u64);
     match flattened {
-        Flattened::Accepted(n, tokens) => tell_accepted(n, tokens, room),
+        Flattened::Accepted(n, tokens, advance) => tell_accepted(n, tokens, advance, room),
         Flattened::BadGlobals(flaw) => tell_bad_globals(flaw),
         Flattened::BadLocals(flaw) => tell_bad_locals(flaw),
         Flattened::Refused(why) => tell_stop(why),
@@ -85,11 +87,23 @@ fn tell_font(flattened: FontFlattened, room: &[u8]) {
     }
 }
 
-// The length and the tokens, and the flat string on the next line.
-fn tell_accepted(n: usize, tokens: u32, room: &[u8]) {
+// The length, the tokens and the advance width, and the flat string on the next line.
+fn tell_accepted(n: usize, tokens: u32, advance: Advance, room: &[u8]) {
     say_value(n as u64);
     say_value(tokens as u64);
+    match advance {
+        Advance::Default => say(b" -"),
+        Advance::Given(width) => say_operand(width),
+    }
     tell_bytes(n, room);
+}
+
+// A Fixed by how many 65536ths it is.
+fn say_operand(o: Operand) {
+    say_signed(o.value);
+    if o.fixed {
+        say(b"/65536");
+    }
 }
 
 // The length, and the INDEX on the next line.
@@ -228,6 +242,17 @@ fn say(words: &[u8]) {
 fn say_value(n: u64) {
     say(b" ");
     count(n);
+}
+
+// From 2^31 on the 32 bits of a number are those of a negative one.
+fn say_signed(z: i32) {
+    let bits = number::bits_of(z);
+    if bits < 2147483648 {
+        say_value(bits as u64);
+    } else {
+        say(b" -");
+        count(4294967296 - bits as u64);
+    }
 }
 
 fn count(n: u64) {

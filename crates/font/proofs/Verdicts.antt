@@ -36,7 +36,7 @@ needing-alone e = let z : _≡_ {A = ℕ} 0 1 = cc in omega arith
 
 -- a verdict is no other answer
 pub not-of-run : (r : Flattened) → OneOf Others (tagOf flattened-type.the-type r) → OfRun (flattened r) → ⊥
-not-of-run (Accepted n t) k o = o
+not-of-run (Accepted n t w) k o = o
 not-of-run (BadGlobals f) k o = because-token (verdict-with (o .0) (o .1) _ _ (o .2))
 not-of-run (BadLocals f) k o = because-token (verdict-with (o .0) (o .1) _ _ (o .2))
 not-of-run (Refused w) k o = miss Others 3 tt k
@@ -44,14 +44,14 @@ not-of-run (NoRoom n t) k o = needing-alone (verdict-with (o .0) (o .1) _ _ (o .
 
 pub of-run : (r : Flattened) (rules : Rules) (x : Run) → OneOf Refusals (tagOf flattened-type.the-type r) → flattened r ≡ verdict rules x
     → OfRun (flattened r)
-of-run (Accepted n t) rules x k e = absurd (miss Refusals 0 tt k)
+of-run (Accepted n t w) rules x k e = absurd (miss Refusals 0 tt k)
 of-run (BadGlobals f) rules x k e = (rules, x, e)
 of-run (BadLocals f) rules x k e = (rules, x, e)
 of-run (Refused w) rules x k e = (rules, x, e)
 of-run (NoRoom n t) rules x k e = (rules, x, e)
 
 pub not-accepted : (r : Flattened) → OneOf Refusals (tagOf flattened-type.the-type r) → (x : Flattening) → flattened r ≡ accepted x → ⊥
-not-accepted (Accepted n t) k x e = miss Refusals 0 tt k
+not-accepted (Accepted n t w) k x e = miss Refusals 0 tt k
 not-accepted (BadGlobals f) k x e = refused-accepted e
 not-accepted (BadLocals f) k x e = refused-accepted e
 not-accepted (Refused w) k x e = refused-accepted e

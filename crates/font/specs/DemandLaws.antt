@@ -164,8 +164,8 @@ module _ (rules : Rules) (charstrings globals locals : List ℕ) (budget : ℕ) 
             let enough = items-tokens rules lists budget cs entries cs-bytes a in
             let most = tokens-budget rules lists budget cs in
             let other = listsOf w globals′ locals′ in
-            let just : Just (run cs .how) items (original rules f globals′ locals′ budget) =
-            subst (λ (y : List ℕ). Just (run cs .how) items (original rules y globals′ locals′ budget)) (gave-it .is)
+            let just : Just rules (run cs .how) items (original rules f globals′ locals′ budget) =
+            subst (λ (y : List ℕ). Just rules (run cs .how) items (original rules y globals′ locals′ budget)) (gave-it .is)
             (just-again rules lists budget cs entries cs-bytes a other budget (omega arith)) in
             flat-accepted rules (original rules f globals′ locals′ budget) (subst (AcceptedBy rules) (sym (just .how)) (gave-it .accepted-by))
             ∙ ap accepted (ap (λ (s : List Shown). flat (struck s)) (just .shown) ∙ ap flat (struck-shown items) ∙ gave-it .is)

@@ -12,9 +12,10 @@ use Rattle.number.specs.Call.{bitLength, counts, callIndex, entryOf, biased, ca
 use Rattle.index.specs.Index.{offset, byLast, bySize, byCount, extent, placeBy, placeIn, place, bytesBy as partBytes, part}
 use Rattle.index.specs.Formed.{unless, entriesFrom, formedBy, formation}
 use Rattle.index_writing.specs.Writing.{total, sizeFor, offsets, behindCount, indexBytes, indexOf}
-use Rattle.reading.specs.Rules.{Rules, byteKind, escapedKind, kindBy, plain, strict}
+use Rattle.reading.specs.Rules.{Rules, byteKind, escapedKind, kindBy, byteTakes, type2Takes, plain, strict}
 use Rattle.reading.specs.Lists.{countIn, entryBy, subrsOf, listsOf}
 use Rattle.reading.specs.Tokens.{escapedAt, operatorAt, cutBy, cut}
+use Rattle.reading.specs.Items.{bottom, byKind, leaves}
 use Rattle.reading.specs.Reading.{struck, tokensBy, endsInOperand, admitted, onNumber, onStem, onMask, onEnd, onEntry}
 use Rattle.reading.specs.Reading.{onIndex, onCall, onOperator, onCut, onToken, resume, after, tokensOf, read, reading}
 use Rattle.reading.specs.Flat.{spelled, flat}
@@ -143,7 +144,7 @@ unfolding expectedBy into readyBy judged flatIn decided allFrom lengthsOf joined
     beAt bytesOf signed unsigned integerRows rowsOf rowOf valueBy numberBy readBy formBy spell bytes bytesBy spelling
     bitLength counts callIndex entryOf biased callee
     offset byLast bySize byCount extent placeBy placeIn place partBytes part unless entriesFrom formedBy formation
-    byteKind escapedKind kindBy countIn entryBy subrsOf listsOf escapedAt operatorAt cutBy cut
+    byteKind escapedKind kindBy byteTakes type2Takes bottom byKind leaves countIn entryBy subrsOf listsOf escapedAt operatorAt cutBy cut
     struck tokensBy endsInOperand admitted onNumber onStem onMask onEnd onEntry onIndex onCall onOperator onCut onToken
     resume after tokensOf read reading spelled flat
 rows-hold = (

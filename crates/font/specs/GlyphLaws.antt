@@ -31,15 +31,14 @@ pub record Flat (rules : Rules) (r : Run) (n : ℕ) : Type 0 where
   pub long : n ≡ length (stringOf (flatIn rules r))
 
 module _ (rules : Rules) (r : Run) where
-  pub verdict-flat : (n t : ℕ) → accepted (record { size = n; tokens = t }) ≡ verdict rules r → Flat rules r n
+  pub verdict-flat : (x : Flattening) → accepted x ≡ verdict rules r → Flat rules r (x .size)
   unfolding verdict flatIn
-  verdict-flat n t e = go (judged rules r) refl (judged-so rules r) e
+  verdict-flat x e = go (judged rules r) refl (judged-so rules r) e
     where
-      go : (y : Answer (Ready Flattening)) → judged rules r ≡ y → Judged rules r y → accepted (record { size = n; tokens = t }) ≡ toldIn y
-          → Flat rules r n
+      go : (y : Answer (Ready Flattening)) → judged rules r ≡ y → Judged rules r y → accepted x ≡ toldIn y → Flat rules r (x .size)
       go y q (takes a) e =
-          let string : stringOf (flatIn rules r) ≡ flatOf r = ap (λ (x : Answer (Ready Flattening)). stringOf (bytesIn x)) q in
-          let long : n ≡ length (flatOf r) = ap (λ (x : Flattening). x .size) (accepted-same e) in
+          let string : stringOf (flatIn rules r) ≡ flatOf r = ap (λ (z : Answer (Ready Flattening)). stringOf (bytesIn z)) q in
+          let long : x .size ≡ length (flatOf r) = ap (λ (z : Flattening). z .size) (accepted-same e) in
           record {
             ran = came-to-end rules (r .how) a;
             is = ap bytesIn q ∙ ap accepted (sym string);
@@ -66,7 +65,7 @@ module _ (rules : Rules) (r : Run) where
 
   -- a string that is there is the verdict's
   abbrev told : Answer (List ℕ) → Answer Flattening
-  told x = accepted (record { size = length (stringOf x); tokens = tokens r })
+  told x = accepted (record { size = length (stringOf x); tokens = tokens r; advance = r .state .left .advance })
 
   pub is-flat : Is (flatIn rules r) → verdict rules r ≡ told (flatIn rules r)
   unfolding verdict flatIn

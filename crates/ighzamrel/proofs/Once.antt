@@ -107,12 +107,14 @@ pub write-index-once : (κs : Lfts 4) (a : Dens κs write-kinds.ps) (r r′ : re
     × (x .1 .1 .1 .0 .now ≡ x′ .1 .1 .1 .0 .now)
 write-index-once κs a r r′ x x′ p p′ = written-once (p ∙ sym p′)
 
-pub flatten-once : (κs : Lfts 6) (a : Dens κs flatten-kinds.ps) (r r′ : resT flatten-kinds.r κs .Denot)
-    (x x′ : AtExit (endedOf 6 flatten-kinds.ps flatten-kinds.r) κs)
+pub flatten-once : (κs : Lfts 8) (a : Dens κs flatten-kinds.ps) (r r′ : resT flatten-kinds.r κs .Denot)
+    (x x′ : AtExit (endedOf 8 flatten-kinds.ps flatten-kinds.r) κs)
     → flatten-reads.Post κs a r x → flatten-reads.Post κs a r′ x′
     → (r ≡ r′) × (x .1 .1 .1 .1 .1 .0 .now ≡ x′ .1 .1 .1 .1 .1 .0 .now) × (x .1 .1 .1 .1 .1 .1 .0 .now ≡ x′ .1 .1 .1 .1 .1 .1 .0 .now)
     × (x .1 .1 .1 .1 .1 .1 .1 .0 .now ≡ x′ .1 .1 .1 .1 .1 .1 .1 .0 .now) × (x .1 .1 .1 .1 .1 .1 .1 .1 .0 .now ≡ x′ .1 .1 .1 .1 .1 .1 .1 .1 .0 .now)
     × (x .1 .1 .1 .1 .1 .1 .1 .1 .1 .0 .now ≡ x′ .1 .1 .1 .1 .1 .1 .1 .1 .1 .0 .now)
+    × (x .1 .1 .1 .1 .1 .1 .1 .1 .1 .1 .0 .now ≡ x′ .1 .1 .1 .1 .1 .1 .1 .1 .1 .1 .0 .now)
+    × (x .1 .1 .1 .1 .1 .1 .1 .1 .1 .1 .1 .0 .now ≡ x′ .1 .1 .1 .1 .1 .1 .1 .1 .1 .1 .1 .0 .now)
 flatten-once κs a r r′ x x′ p p′ =
     let w = written-once (p ∙ sym p′) in (
       w .0,
@@ -121,6 +123,8 @@ flatten-once κs a r r′ x x′ p p′ =
       ap (λ (y : FlatPlaces). y .tokens) (w .2),
       ap (λ (y : FlatPlaces). y .entry) (w .2),
       ap (λ (y : FlatPlaces). y .reason) (w .2),
+      ap (λ (y : FlatPlaces). y .widthKind) (w .2),
+      ap (λ (y : FlatPlaces). y .width) (w .2),
     )
 
 pub flatten-font-once : (κs : Lfts 7) (a : Dens κs font-kinds.ps) (r r′ : resT font-kinds.r κs .Denot)

@@ -1,10 +1,11 @@
 -- No refusal of a flattening, of one glyph or of a font, has the number 0: an answer of 0 says that it was accepted. Assumes nothing.
-use mathlib.Core.Path.{_≡_, refl, ap, sym}
+use mathlib.Core.Path.{_≡_, refl, ap, sym, _∙_}
 use mathlib.Core.Bool.{Bool, true, false, cond}
 use mathlib.Core.List.{List, _++_}
 use Prim.Native.Nat.{ℕ, _<_}
 use native.Mathlib.Omega.{arith}
 use lib.Dec.{leb, lit<}
+use lib.IntN.{ℤ}
 use lib.ListN.{length, drop}
 use Rattle.number.specs.Answer.{Values, Answer, accepted, refused, Outcome, leaving, Ready, into}
 use Rattle.reading.specs.Rules.{Rules}
@@ -15,7 +16,9 @@ use Rattle.reading.specs.Tokens.{Bytes}
 use Rattle.font.specs.Font.{flattenFont}
 use Rattle.font.specs.Demands.{Why, bad-globals, bad-locals, bad-charstrings, bad-glyph, too-long, no-room}
 use Rattle.font.specs.RefusalLaws.{refusal-demand}
-use Rattle.ighzamrel.specs.Told.{Told, told, tell, FlatPlaces, flatPlaces, flatPlacesOr, FontPlaces, fontPlaces, fontPlacesOr}
+use Rattle.reading.specs.declared.Advance.{Advance}
+use Rattle.reading.specs.declared.Advance.the-variants.{Default, Given}
+use Rattle.ighzamrel.specs.Told.{kindOf, widthKindOf, widthOr, advanceTold, Told, told, tell, FlatPlaces, flatPlaces, flatPlacesOr, FontPlaces, fontPlaces, fontPlacesOr}
 
 -- what is refused is refused by a number above 0
 abbrev pub Numbered : {A : Type 0} → Answer A → Type 0
@@ -55,11 +58,26 @@ unfolding flattening outcome
 numbered-flattening rules cs globals locals budget out =
     numbered-gate 1 out _ _ (lit< tt) (numbered-gate 2 out _ _ (lit< tt) (numbered-into out _ (numbered-judged rules cs globals locals budget)))
 
+-- what is given at the places
+abbrev pub flatTold : FlatPlaces → Flattening
+flatTold p = record { size = p .length; tokens = p .tokens; advance = advanceTold (p .widthKind) (p .width) }
+
+pub advance-back : (w : Advance) (old : ℤ) → w ≡ advanceTold (widthKindOf w) (widthOr old w)
+advance-back Default old = refl
+advance-back (Given o) old = by-kind (o .fixed) refl
+  where
+    by-kind : (f : Bool) → o .fixed ≡ f → Given o ≡ advanceTold (kindOf f) (o .value)
+    by-kind false e = ap (λ (b : Bool). Given (record { fixed = b; value = o .value })) e
+    by-kind true e = ap (λ (b : Bool). Given (record { fixed = b; value = o .value })) e
+
+told-back : (x : Flattening) (old : FlatPlaces) → accepted x ≡ accepted (flatTold (flatPlaces old x))
+told-back x old = ap (λ (w : Advance). accepted (record { size = x .size; tokens = x .tokens; advance = w })) (advance-back (x .advance) (old .width))
+
 -- where 0 is told, the answer is accepted, and the places are what it gives
 pub told-accepted : (a : Answer Flattening) (old p : FlatPlaces) → Numbered a → told 0 p ≡ tell flatPlaces flatPlacesOr a old
-    → a ≡ accepted (record { size = p .length; tokens = p .tokens })
+    → a ≡ accepted (flatTold p)
 unfolding tell
-told-accepted (accepted x) old p h e = ap (λ (t : Told FlatPlaces). accepted (record { size = t .places .length; tokens = t .places .tokens })) (sym e)
+told-accepted (accepted x) old p h e = told-back x old ∙ ap (λ (t : Told FlatPlaces). accepted (flatTold (t .places))) (sym e)
 told-accepted (refused n v) old p h e = let z : 0 ≡ n = ap (λ (t : Told FlatPlaces). t .number) e in absurd (omega arith)
 
 -- ---- of a whole font

@@ -53,7 +53,7 @@ tells-eight {A} {P} set setBy (refused n v) old p e h =
     let z : _≡_ {A = ℕ} 8 n = ap (λ (t : Told P). t .number) e in h v (ap (λ (m : ℕ). refused m v) (sym z))
 
 -- a call of `ighzamrel_flatten` in strict
-module _ (κs : Lfts 6) (a : Dens κs kinds.ps) (x : AtExit (endedOf 6 kinds.ps kinds.r) κs) (in-strict : a .1 .1 .1 .0 ≡ 0 → ⊥)
+module _ (κs : Lfts 8) (a : Dens κs kinds.ps) (x : AtExit (endedOf 8 kinds.ps kinds.r) κs) (in-strict : a .1 .1 .1 .0 ≡ 0 → ⊥)
     (cs-bytes : Bytes (a .0 .now)) (globals-bytes : Bytes (a .1 .0 .now)) (locals-bytes : Bytes (a .1 .1 .0 .now)) where
   -- It does not answer 8.
   pub not-eight : reads.Post κs a 8 x → ⊥

@@ -7,6 +7,8 @@ use Rattle.number.specs.Answer.{Values, Answer, accepted, refused, lengthOr, to
 use Rattle.number.specs.Number.{Number}
 use Rattle.number.specs.declared.Operand.{Operand}
 use Rattle.reading.specs.Answers.{Flattening}
+use Rattle.reading.specs.declared.Advance.{Advance}
+use Rattle.reading.specs.declared.Advance.the-variants.{Default, Given}
 use Rattle.reading.specs.declared.Profile.{Profile}
 use Rattle.reading.specs.declared.Profile.the-variants.{Plain, Strict}
 
@@ -21,6 +23,19 @@ kindOf true = 1
 
 abbrev pub operandOf : ℕ → ℤ → Operand
 operandOf kind value = record { fixed = nonzero kind; value = value }
+
+-- of an advance width 2 stands for none, whose value is not told
+abbrev pub widthKindOf : Advance → ℕ
+widthKindOf Default = 2
+widthKindOf (Given o) = kindOf (o .fixed)
+
+abbrev pub widthOr : ℤ → Advance → ℤ
+widthOr old Default = old
+widthOr old (Given o) = o .value
+
+-- and so a width is told
+abbrev pub advanceTold : ℕ → ℤ → Advance
+advanceTold kind value = cond (eqb kind 2) Default (Given (operandOf kind value))
 
 unfoldable pub profileOf : ℕ → Profile
 profileOf n = cond (eqb n 0) Plain Strict
@@ -90,9 +105,19 @@ pub record FlatPlaces : Type 0 where
   pub tokens : ℕ
   pub entry : ℕ
   pub reason : ℕ
+  pub widthKind : ℕ
+  pub width : ℤ
 
 abbrev pub flatPlaces : FlatPlaces → Flattening → FlatPlaces
-flatPlaces old x = record { length = x .size; tokens = x .tokens; entry = old .entry; reason = old .reason }
+flatPlaces old x =
+    record {
+      length = x .size;
+      tokens = x .tokens;
+      entry = old .entry;
+      reason = old .reason;
+      widthKind = widthKindOf (x .advance);
+      width = widthOr (old .width) (x .advance);
+    }
 
 abbrev pub flatPlacesOr : FlatPlaces → Values → FlatPlaces
 flatPlacesOr old v =
@@ -101,6 +126,8 @@ flatPlacesOr old v =
       tokens = tokensOr (old .tokens) v;
       entry = entryOr (old .entry) v;
       reason = reasonOr (old .reason) v;
+      widthKind = old .widthKind;
+      width = old .width;
     }
 
 abbrev pub tellFlattening : Outcome (Answer Flattening) → FlatPlaces → Outcome (Told FlatPlaces)

@@ -43,7 +43,15 @@ stop-told n left places old w e = rw e
 
 -- and nothing else comes with it
 abbrev withTokens : FlatPlaces → ℕ → FlatPlaces
-withTokens old t = record { length = old .length; tokens = t; entry = old .entry; reason = old .reason }
+withTokens old t =
+    record {
+      length = old .length;
+      tokens = t;
+      entry = old .entry;
+      reason = old .reason;
+      widthKind = old .widthKind;
+      width = old .width;
+    }
 
 pub stop-alone : (n : ℕ) (left : List ℕ) (old : FlatPlaces) (w : Stopped)
     → leaving (told n (withTokens old (tokensOr (old .tokens) (stopValues w)))) left ≡ leaving (told n (flatPlacesOr old (stopValues w))) left
@@ -51,8 +59,7 @@ unfolding tokensOr entryOr
 stop-alone n left old (At k t) = refl
 stop-alone n left old (Alone k) = refl
 
--- what is told of a list's flaw: the entry i that comes with it, and its number k
-pub flaw-told : {P : Type 0} (n : ℕ) (left : List ℕ) (places : ℕ → ℕ → P) (old : ℕ) (f : Flaw) {i k : ℕ}
-    → i ≡ entryOr old (reasonAt f) → k ≡ reasonOf f
-    → leaving (told n (places i k)) left ≡ leaving (told n (places (entryOr old (reasonAt f)) (reasonOf f))) left
-flaw-told n left places old f p q = rw (p, q)
+-- what is told at two places that another function sets: a list's flaw, or an advance width
+pub two-told : {X Y P : Type 0} (n : ℕ) (left : List ℕ) (places : X → Y → P) {x x′ : X} {y y′ : Y} → x ≡ x′ → y ≡ y′
+    → leaving (told n (places x y)) left ≡ leaving (told n (places x′ y′)) left
+two-told n left places p q = rw (p, q)

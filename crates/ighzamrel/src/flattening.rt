@@ -1,7 +1,9 @@
 // Flattening.
 use crate::indexes::tell_entry;
+use crate::numbers::kind_of;
 use charstring::flatten;
 use index::Flaw;
+use reading::Advance;
 use reading::Flattened;
 use reading::Profile;
 use reading::Stopped;
@@ -10,11 +12,12 @@ ghost use Rattle.reading.specs.Rules.{rulesOf};
 ghost use Rattle.reading.specs.Answers.{stopValues, flattening};
 ghost use Rattle.index.specs.Formed.{reasonOf, reasonAt};
 ghost use Rattle.number.specs.Answer.{tokensOr, entryOr, leaving};
-ghost use Rattle.ighzamrel.specs.Told.{profileOf, told, tellFlattening};
+ghost use Rattle.ighzamrel.specs.Told.{widthKindOf, widthOr, profileOf, told, tellFlattening};
 
 // Flattens a charstring with its two subroutine lists into the start of out: 0, the flat string's
-// length and the tokens; 13 and the same two; 3 to 12 and the tokens; 15, in strict, alone; or 1 or 2 and
-// the reason, which is 20 or 21, or 40, 41 or 42 with the number of the first entry that is absent.
+// length, the tokens and the advance width, by its kind, 2 for none, and its value; 13, the length and
+// the tokens; 3 to 12 and the tokens; 15 and 16, in strict, alone; or 1 or 2 and the reason, which is
+// 20 or 21, or 40, 41 or 42 with the number of the first entry that is absent.
 #[no_mangle]
 pub extern "C" fn ighzamrel_flatten<'a>(
     charstring: &'a [u8],
@@ -27,12 +30,16 @@ pub extern "C" fn ighzamrel_flatten<'a>(
     tokens: &mut u32,
     entry: &mut u32,
     reason: &mut u32,
+    width_kind: &mut u32,
+    width: &mut i32,
 ) -> u32
     ensures { λ r. ⌜ leaving (told r (record {
       length = now (length .exit);
       tokens = now (tokens .exit);
       entry = now («entry» .exit);
       reason = now (reason .exit);
+      widthKind = now («width_kind» .exit);
+      width = now (width .exit);
     })) (now (out .exit))
         ≡ tellFlattening
         (flattening (rulesOf (profileOf profile)) (now (charstring .entry)) (now (globals .entry)) (now (locals .entry)) budget (now (out .entry)))
@@ -41,6 +48,8 @@ pub extern "C" fn ighzamrel_flatten<'a>(
           tokens = now (tokens .entry);
           entry = now («entry» .entry);
           reason = now (reason .entry);
+          widthKind = now («width_kind» .entry);
+          width = now (width .entry);
         }) ⌝ }
 {
     let flattened = flatten(
@@ -52,9 +61,10 @@ pub extern "C" fn ighzamrel_flatten<'a>(
         out,
     );
     match flattened {
-        Flattened::Accepted(n, count) => {
+        Flattened::Accepted(n, count, advance) => {
             *length = n;
             *tokens = count;
+            tell_advance(advance, width_kind, width);
             flattened.number()
         }
         Flattened::BadGlobals(flaw) => {
@@ -73,6 +83,22 @@ pub extern "C" fn ighzamrel_flatten<'a>(
             *length = n;
             *tokens = count;
             flattened.number()
+        }
+    }
+}
+
+// Tells the kind of an advance width, 2 for none, and its value.
+fn tell_advance(advance: Advance, width_kind: &mut u32, width: &mut i32)
+    ensures { λ _. ⌜ (now («width_kind» .exit) ≡ widthKindOf advance) × (now (width .exit) ≡ widthOr (now (width .entry)) advance) ⌝ }
+{
+    match advance {
+        Advance::Default => {
+            *width_kind = 2;
+        }
+        Advance::Given(o) => {
+            let z = o.value;
+            *width_kind = kind_of(o.fixed);
+            *width = z;
         }
     }
 }

@@ -139,7 +139,7 @@ fn operand_of(kind: u32, value: i32) -> Operand
     }
 }
 
-fn kind_of(fixed: bool) -> u32
+pub(crate) fn kind_of(fixed: bool) -> u32
     ensures { λ r. ⌜ r ≡ kindOf fixed ⌝ }
 {
     if fixed { 1 } else { 0 }

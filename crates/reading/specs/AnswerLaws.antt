@@ -100,6 +100,7 @@ pub record Took (rules : Rules) (out : List ℕ) (r : Run) (x : Flattening) (lef
   pub accepted-by : AcceptedBy rules (r .how)
   pub size : x .size ≡ length (flatOf r)
   pub tokens-are : x .tokens ≡ tokens r
+  pub advance-is : x .advance ≡ r .state .left .advance
   pub fits : length (flatOf r) ≤ length out
   pub left-is : left ≡ flatOf r ++ drop (length (flatOf r)) out
 
@@ -112,6 +113,7 @@ module _ (rules : Rules) (out : List ℕ) (r : Run) (x : Flattening) where
         accepted-by = a;
         size = sym (ap (λ (y : Flattening). y .size) told);
         tokens-are = sym (ap (λ (y : Flattening). y .tokens) told);
+        advance-is = sym (ap (λ (y : Flattening). y .advance) told);
         fits = subst (λ (y : Ready Flattening). length (y .bytes) ≤ length out) (sym same) (p .fits);
         left-is = p .left-is ∙ ap (λ (y : Ready Flattening). y .bytes ++ drop (length (y .bytes)) out) (sym same);
       }

@@ -12,6 +12,7 @@ use Rattle.reading.specs.Flat.{flat}
 use Rattle.reading.specs.declared.Refusal.{Refusal}
 use Rattle.reading.specs.declared.Refusal.the-variants.{BudgetSpent, BytesLacking, TooManyOperands, UnknownOperator}
 use Rattle.reading.specs.declared.Refusal.the-variants.{NoIndex, IndexNotLast, NoEntry, TooDeep, TooManyHints, Composite, OperandsAtMask, NoEndchar}
+use Rattle.reading.specs.declared.Advance.{Advance}
 use Rattle.reading.specs.declared.Stopped.{Stopped}
 use Rattle.reading.specs.declared.Stopped.the-variants.{At, Alone}
 use Rattle.reading.specs.declared.Flattened.{Flattened}
@@ -20,17 +21,18 @@ use Rattle.reading.specs.declared.Flattened.the-variants.{Accepted, BadG
 pub record Flattening : Type 0 where
   pub size : ℕ
   pub tokens : ℕ
+  pub advance : Advance
 
 -- ---- the answer of a run, and what it leaves in the room
 
 abbrev pub flatOf : Run → List ℕ
 flatOf r = flat (struck (r .state .shown))
 
--- the flat string, its length and the tokens
+-- the flat string; its length, the tokens and the advance width
 abbrev pub flatReady : Run → Ready Flattening
 flatReady r =
     let n = length (flatOf r) in
-    record { bytes = flatOf r; told = record { size = n; tokens = tokens r }; short = needingAt n (tokens r) }
+    record { bytes = flatOf r; told = record { size = n; tokens = tokens r; advance = r .state .left .advance }; short = needingAt n (tokens r) }
 
 -- what comes with a charstring's refusal: the tokens with 3 to 12, and nothing with a later number
 abbrev pub comesWith : ℕ → ℕ → Values
@@ -96,7 +98,7 @@ stopValues (At k t) = atToken t
 stopValues (Alone k) = alone
 
 abbrev pub flattened : Flattened → Answer Flattening
-flattened (Accepted n t) = accepted (record { size = n; tokens = t })
+flattened (Accepted n t w) = accepted (record { size = n; tokens = t; advance = w })
 flattened (BadGlobals f) = refused 1 (because (reasonOf f) (reasonAt f))
 flattened (BadLocals f) = refused 2 (because (reasonOf f) (reasonAt f))
 flattened (Refused w) = refused (stopNumber w) (stopValues w)

@@ -43,8 +43,8 @@ module _ (rules : Rules) (clean : rules .clean ≡ true) where
   unfolding leftBy leaves byKind waiting
   waits f none = refl
   waits f (number-behind o g p l v) = ap suc (waits g v)
-  waits f (stem-behind p g c k l v) = ap (λ (y : Kind). length (byKind y (leftBy rules g) .operands)) k
-  waits f (clear-behind p g c k v) = ap (λ (y : Kind). length (byKind y (leftBy rules g) .operands)) k
+  waits f (stem-behind p g c k l v) = ap (λ (y : Kind). length (byKind (rules .takes p) y (leftBy rules g) .operands)) k
+  waits f (clear-behind p g c k v) = ap (λ (y : Kind). length (byKind (rules .takes p) y (leftBy rules g) .operands)) k
   waits f (mask-behind p m g c k w l n v) = mask-clears (leftBy rules g) w
 
   -- ---- masks
@@ -65,8 +65,8 @@ module _ (rules : Rules) (clean : rules .clean ≡ true) where
   unfolding leftBy leaves byKind hasMask
   fixed f none h = let z : _≡_ {A = ℕ} 0 1 = ap (λ (b : Bool). cond b 1 0) h in absurd (omega arith)
   fixed f (number-behind o g p l v) h = fixed g v h
-  fixed f (stem-behind p g c k l v) h = subst (λ (y : Kind). 0 < byKind y (leftBy rules g) .mask) (sym k) (fixed g v h)
-  fixed f (clear-behind p g c k v) h = subst (λ (y : Kind). 0 < byKind y (leftBy rules g) .mask) (sym k) (fixed g v h)
+  fixed f (stem-behind p g c k l v) h = subst (λ (y : Kind). 0 < byKind (rules .takes p) y (leftBy rules g) .mask) (sym k) (fixed g v h)
+  fixed f (clear-behind p g c k v) h = subst (λ (y : Kind). 0 < byKind (rules .takes p) y (leftBy rules g) .mask) (sym k) (fixed g v h)
   fixed f (mask-behind p m g c k w l n v) h = mask-fixed (leftBy rules g) m (hasMask g) n (fixed g v) h
 
   valid-clean : (f : List Item) → Valid rules f → CleanMasks f

@@ -7,10 +7,10 @@ use Rattle.reading.specs.Lists.{listsOf}
 use Rattle.reading.specs.Items.{Item}
 use Rattle.reading.specs.Masks.{StemsFirst, ByNote, CleanMasks}
 use Rattle.reading.specs.Demands.{EndcharLast, LastByte, SameGlyph, DemandThree, MasksByNote, MasksClean, EndsInEndchar, EndsIn14, NeverEight}
-use Rattle.reading.specs.Demands.{WithinBudget, EnoughBudget, SmallBudget, StrictThenPlain}
+use Rattle.reading.specs.Demands.{AdvanceOfItems, WithinBudget, EnoughBudget, SmallBudget, StrictThenPlain}
 use Rattle.reading.specs.AnswerLaws.{answer-within, answer-enough, answer-short, answer-looser, run-stopped}
 use Rattle.reading.specs.TighterLaws.{strict-tighter}
-use Rattle.reading.specs.SameGlyphLaws.{whole-items, ended-run, reported-is, items-are, same-items, lists-bytes}
+use Rattle.reading.specs.SameGlyphLaws.{whole-items, ended-run, reported-is, items-are, advance-is, same-items, lists-bytes}
 use Rattle.reading.specs.MaskLaws.{whole-note}
 use Rattle.reading.specs.CleanLaws.{whole-clean, run-not-eight}
 use Rattle.reading.specs.EndcharLaws.{whole-ends, whole-last}
@@ -19,6 +19,9 @@ pub demand-three : DemandThree
 demand-three rules cs globals locals budget out x bytes g l a =
     subst (SameGlyph rules cs globals locals budget x) (sym (reported-is rules cs globals locals budget out x bytes g l a))
     (same-items rules cs globals locals budget out x bytes g l a)
+
+pub advance-of-items : AdvanceOfItems
+advance-of-items rules cs globals locals budget out x bytes g l a = advance-is rules cs globals locals budget out x bytes g l a
 
 pub masks-by-note : MasksByNote
 masks-by-note rules cs globals locals budget out x bytes g l a =

@@ -9,7 +9,7 @@ use lib.ListN.{length, take, drop, replicate}
 use Rattle.number.specs.Answer.{Values, accepted, refused, atToken, leaving}
 use Rattle.reading.specs.Rules.{Rules, type2, plain, strict}
 use Rattle.reading.specs.Tokens.{Bytes}
-use Rattle.reading.specs.Items.{Item, operand, bare, masked}
+use Rattle.reading.specs.Items.{Item, operand, bare, masked, advanceIn}
 use Rattle.reading.specs.Reading.{struck, original}
 use Rattle.reading.specs.Flat.{straight}
 use Rattle.reading.specs.Answers.{Flattening, flattening}
@@ -75,10 +75,13 @@ pub record SameGlyph (rules : Rules) (cs globals locals : List ℕ) (budget : �
   pub shows : straight rules F ≡ record { items = struck (original rules cs globals locals budget .state .shown); rest = [] }
   -- F holds no call and no return.
   pub flat-items : Flat rules (straight rules F .items)
-  -- Flattening F with two empty INDEXes, the same rules, a budget of n and room for F gives F back, byte for byte, in as many tokens as F has items.
+  -- Its items say the advance width that is reported.
+  pub width : advanceIn rules (straight rules F .items) ≡ x .advance
+  -- Flattening F with two empty INDEXes, the same rules, a budget of n and room for F gives F back, byte for byte, and the same width, in as many
+  -- tokens as F has items.
   pub again : (out : List ℕ) → x .size ≤ length out
       → flattening rules F (empty rules) (empty rules) (x .tokens) out
-      ≡ leaving (accepted (record { size = x .size; tokens = length (straight rules F .items) })) (F ++ drop (x .size) out)
+      ≡ leaving (accepted (record { size = x .size; tokens = length (straight rules F .items); advance = x .advance })) (F ++ drop (x .size) out)
   -- Those are at most n.
   pub fewer : length (straight rules F .items) ≤ x .tokens
 
@@ -97,6 +100,11 @@ reported rules cs globals locals budget out x = take (x .size) (flattening rules
 abbrev pub DemandThree : Type 0
 DemandThree = OfAccepted (λ rules cs globals locals budget out x.
     SameGlyph rules cs globals locals budget x (reported rules cs globals locals budget out x))
+
+-- its advance width is that of its reading's items, whatever the lists were
+abbrev pub AdvanceOfItems : Type 0
+AdvanceOfItems = OfAccepted (λ rules cs globals locals budget out x.
+    x .advance ≡ advanceIn rules (struck (original rules cs globals locals budget .state .shown)))
 
 -- demand 2's hint masks: where all stems of F stand before its first mask with bytes, each mask of F has TN5177's bytes
 abbrev pub MasksByNote : Type 0

@@ -8,7 +8,7 @@ use lib.Dec.{eqb}
 use lib.ListN.{length}
 use borrow.Author.Tests.{eq-eqb, ne-eqb, eqb-true, eqb-false}
 use Rattle.reading.specs.Rules.{Rules}
-use Rattle.reading.specs.Items.{Item, operand, bare, masked, Left, atMask, byKind, leaves, leftBy}
+use Rattle.reading.specs.Items.{Item, operand, bare, masked, Left, firstMask, atMask, byKind, leaves, leftBy}
 use Rattle.reading.specs.Reading.{Ending}
 use Rattle.reading.specs.Masks.{isStem, waiting, hasMask, declared, maskBytes, StemsFirst, ByNote}
 use Rattle.reading.specs.Valid.{Valid, none, number-behind, stem-behind, clear-behind, mask-behind, Whole, open-ended, end-behind}
@@ -44,10 +44,10 @@ module _ (rules : Rules) where
     tied-stem : (p : _) → rules .kind p ≡ Stem → (isStem (rules .kind p) ≡ true → hasMask f ≡ false) → Tied rules f → Tied rules (bare p ∷ f)
     unfolding leftBy leaves byKind hasMask declared waiting
     tied-stem p e first (before h m n k) =
-        before h (ap (λ (y : Kind). byKind y x .mask) e ∙ m)
-        (ap (λ (y : Kind). byKind y x .hints) e ∙ hints-are
+        before h (ap (λ (y : Kind). byKind (rules .takes p) y x .mask) e ∙ m)
+        (ap (λ (y : Kind). byKind (rules .takes p) y x .hints) e ∙ hints-are
         ∙ sym (ap (λ (y : Kind). cond (isStem y) (declared rules f + waiting f / 2) (declared rules f)) e))
-        (ap (λ (y : Kind). length (byKind y x .operands)) e)
+        (ap (λ (y : Kind). length (byKind (rules .takes p) y x .operands)) e)
       where
         hints-are : x .hints + length (x .operands) / 2 ≡ declared rules f + waiting f / 2
         hints-are = rw (n, k)
@@ -59,19 +59,19 @@ module _ (rules : Rules) where
     tied-clear : (p : _) → rules .kind p ≡ Clear → Tied rules f → Tied rules (bare p ∷ f)
     unfolding leftBy leaves byKind hasMask declared waiting
     tied-clear p e (before h m n k) =
-        before h (ap (λ (y : Kind). byKind y x .mask) e ∙ m)
-        (ap (λ (y : Kind). byKind y x .hints) e ∙ n ∙ sym (ap (λ (y : Kind). cond (isStem y) (declared rules f + waiting f / 2) (declared rules f)) e))
-        (ap (λ (y : Kind). length (byKind y x .operands)) e)
+        before h (ap (λ (y : Kind). byKind (rules .takes p) y x .mask) e ∙ m)
+        (ap (λ (y : Kind). byKind (rules .takes p) y x .hints) e ∙ n ∙ sym (ap (λ (y : Kind). cond (isStem y) (declared rules f + waiting f / 2) (declared rules f)) e))
+        (ap (λ (y : Kind). length (byKind (rules .takes p) y x .operands)) e)
     tied-clear p e (behind h q m) =
-        behind h (subst (λ (y : Kind). 0 < byKind y x .mask) (sym e) q)
-        (ap (λ (y : Kind). byKind y x .mask) e ∙ m
+        behind h (subst (λ (y : Kind). 0 < byKind (rules .takes p) y x .mask) (sym e) q)
+        (ap (λ (y : Kind). byKind (rules .takes p) y x .mask) e ∙ m
         ∙ sym (ap (λ (y : Kind). (cond (isStem y) (declared rules f + waiting f / 2) (declared rules f) + 7) / 8) e))
 
     tied-mask : (p : _) (m : List ℕ) → length m ≡ atMask x .mask → Tied rules f → Tied rules (masked p m ∷ f)
     unfolding leftBy leaves hasMask declared waiting
     tied-mask p m l (before h q n k) = by-size (eqb (length m) 0) refl
       where
-        at : atMask x ≡ record { operands = []; hints = x .hints + length (x .operands) / 2; mask = (x .hints + length (x .operands) / 2 + 7) / 8 }
+        at : atMask x ≡ firstMask x
         at = rw (eq-eqb (x .mask) 0 q)
 
         hints-are : atMask x .hints ≡ cond (hasMask f) (declared rules f) (declared rules f + waiting f / 2)

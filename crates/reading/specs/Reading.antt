@@ -11,7 +11,7 @@ use Rattle.number.specs.declared.Operand.{Operand}
 use Rattle.reading.specs.Rules.{Rules}
 use Rattle.reading.specs.Lists.{Lists, Subrs, Entry, present, absent, listed, listsOf}
 use Rattle.reading.specs.Tokens.{number, operator, Cut, token, lacking, cut}
-use Rattle.reading.specs.Items.{Item, operand, bare, masked, Left, nothing, pushed, popped, cleared, counted, atMask, leftOver}
+use Rattle.reading.specs.Items.{Item, operand, bare, masked, Left, nothing, popped, counted, atMask, leftOver, leaves}
 use Rattle.reading.specs.declared.Operator.{Operator}
 use Rattle.reading.specs.declared.Which.{Which}
 use Rattle.reading.specs.declared.Kind.{Kind}
@@ -84,9 +84,9 @@ pub data Step : Type 0 where
 abbrev pub refuse : ℕ → State → Step
 refuse n s = halt (stopped n) s
 
--- the states behind an item that leaves x, within an entry, behind a return, and back in the caller
-abbrev pub shows : Item → Left → State → State
-shows i x s = record { left = x; shown = item i ∷ s .shown; within = s .within }
+-- the states behind an item, within an entry, behind a return, and back in the caller
+abbrev pub shows : Rules → Item → State → State
+shows rules i s = record { left = leaves rules i (s .left); shown = item i ∷ s .shown; within = s .within }
 
 abbrev pub entered : Entering → State → State
 entered c s = record { left = popped (s .left); shown = call c ∷ s .shown; within = c ∷ s .within }
@@ -110,10 +110,10 @@ module _ (rules : Rules) (rest : List ℕ) (s : State) where
   hinted x then = cond (leb (x .hints) (rules .hints)) then (refuse 11 s)
 
   unfoldable pub onNumber : Operand → Step
-  onNumber o = cond (ltb (length (s .left .operands)) (rules .operands)) (go rest (shows (operand o) (pushed o (s .left)) s)) (refuse 5 s)
+  onNumber o = cond (ltb (length (s .left .operands)) (rules .operands)) (go rest (shows rules (operand o) s)) (refuse 5 s)
 
   unfoldable pub onStem : Operator → Step
-  onStem p = hinted (counted (s .left)) (go rest (shows (bare p) (counted (s .left)) s))
+  onStem p = hinted (counted (s .left)) (go rest (shows rules (bare p) s))
 
   unfoldable pub onMask : Operator → Step
   onMask p =
@@ -121,10 +121,10 @@ module _ (rules : Rules) (rest : List ℕ) (s : State) where
       let n = x .mask in
       cond (leftOver rules (s .left)) (refuse 15 s)
       (hinted x
-      (cond (leb n (length rest)) (go (drop n rest) (shows (masked p (take n rest)) x s)) (refuse 4 s)))
+      (cond (leb n (length rest)) (go (drop n rest) (shows rules (masked p (take n rest)) s)) (refuse 4 s)))
 
   unfoldable pub onEnd : Operator → Step
-  onEnd p = cond (ltb (length (s .left .operands)) 4) (halt ended (shows (bare p) (s .left) s)) (refuse 12 s)
+  onEnd p = cond (ltb (length (s .left .operands)) 4) (halt ended (shows rules (bare p) s)) (refuse 12 s)
 
 -- Whether a call enters: 9 where its entry is absent, 10 where no level is left, 8 where its index does not stand last in the flat string.
 unfoldable pub admitted : {A : Type 0} → ℕ → Bool → Entry A → Answer A
@@ -150,7 +150,7 @@ module _ (levels : ℕ) (rest : List ℕ) (s : State) where
 module _ (rules : Rules) (lists : Lists) (levels at : ℕ) where
   unfoldable pub onOperator : List ℕ → State → Operator → Kind → Step
   onOperator rest s p Stem = onStem rules rest s p
-  onOperator rest s p Clear = go rest (shows (bare p) (cleared (s .left)) s)
+  onOperator rest s p Clear = go rest (shows rules (bare p) s)
   onOperator rest s p Mask = onMask rules rest s p
   onOperator rest s p (Call which) = onCall levels rest s which (listed lists which) at (rules .exact) (s .left .operands)
   onOperator rest s p Return = halt back (returned s)

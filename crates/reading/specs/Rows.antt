@@ -4,6 +4,7 @@ use mathlib.Core.Path.{_≡_, refl}
 use mathlib.Core.List.{List, [], _∷_, _++_}
 use mathlib.Core.Bool.{Bool, true, false}
 use Prim.Native.Nat.{ℕ, _+_}
+use lib.IntN.{pos, negsuc}
 use lib.ListN.{length, drop, replicate}
 use Rattle.number.specs.Answer.{Values, alone, atToken, needingAt, atEntry, because, Answer, accepted, refused, Outcome, leaving, into}
 use Rattle.number.specs.BigEndian.{beAt, bytesOf}
@@ -14,18 +15,22 @@ use Rattle.number.specs.Call.{bitLength, counts, callIndex, entryOf, biased, ca
 use Rattle.index.specs.Index.{offset, byLast, bySize, byCount, extent, placeBy, placeIn, place, bytesBy as partBytes, part}
 use Rattle.index.specs.Formed.{unless, entriesFrom, formedBy, formation}
 use Rattle.index.specs.declared.width.Width.the-variants.{Four}
-use Rattle.reading.specs.Rules.{Rules, byteKind, escapedKind, kindBy, type2, plain, strict, meant}
+use Rattle.reading.specs.Rules.{Rules, byteKind, escapedKind, kindBy, type2, byteTakes, type2Takes, plain, strict, meant}
+use Rattle.reading.specs.declared.Advance.the-variants.{Default, Given}
+use Rattle.number.specs.declared.Operand.{Operand}
 use Rattle.reading.specs.declared.Rules.{Rules as CodeRules}
 use Rattle.reading.specs.Lists.{absent as absent-entry, countIn, entryBy, subrsOf, listsOf}
 use Rattle.reading.specs.Tokens.{escapedAt, operatorAt, cutBy, cut}
+use Rattle.reading.specs.Items.{bottom, byKind, leaves}
 use Rattle.reading.specs.Reading.{struck, tokensBy, endsInOperand, admitted, onNumber, onStem, onMask, onEnd, onEntry}
 use Rattle.reading.specs.Reading.{onIndex, onCall, onOperator, onCut, onToken, resume, after, tokensOf, read, reading}
 use Rattle.reading.specs.Flat.{spelled, flat}
 use Rattle.reading.specs.Answers.{Flattening, readyBy, judged, outcome, listGate, flattening}
 
--- what a row expects: a flat string and its tokens, or a refusal and what comes with it
+-- what a row expects: a flat string and its tokens, without an advance width or with one, or a refusal and what comes with it
 pub data Expected : Type 0 where
   gives : List ℕ → ℕ → Expected
+  says : List ℕ → ℕ → Operand → Expected
   refuses : ℕ → Values → Expected
 
 pub record Row : Type 0 where
@@ -42,7 +47,8 @@ abbrev pub lent : Row → List ℕ
 lent r = replicate (r .room) 0xA5
 
 unfoldable pub expectedBy : List ℕ → Expected → Outcome (Answer Flattening)
-expectedBy out (gives f t) = leaving (accepted (record { size = length f; tokens = t })) (f ++ drop (length f) out)
+expectedBy out (gives f t) = leaving (accepted (record { size = length f; tokens = t; advance = Default })) (f ++ drop (length f) out)
+expectedBy out (says f t o) = leaving (accepted (record { size = length f; tokens = t; advance = Given o })) (f ++ drop (length f) out)
 expectedBy out (refuses n v) = leaving (refused n v) out
 
 abbrev pub Holds : Row → Type 0
@@ -65,6 +71,10 @@ L = 0x00 ∷ 0x01 ∷ 0x01 ∷ 0x01 ∷ 0x05 ∷ 0x8C ∷ 0x8D ∷ 0x15 ∷ 0x0B
 abbrev itself : List ℕ
 itself = 0x00 ∷ 0x01 ∷ 0x01 ∷ 0x01 ∷ 0x03 ∷ 0x20 ∷ 0x0A ∷ []
 
+-- an integer
+abbrev whole : ℕ → Operand
+whole n = record { fixed = false; value = pos n }
+
 -- ample budget and room, plain
 abbrev row : List ℕ → List ℕ → Expected → Row
 row cs locals e = record { charstring = cs; globals = none; locals = locals; rules = plain; budget = 1000; room = 32; expected = e }
@@ -80,7 +90,7 @@ starred =
     ∷ row (0x20 ∷ 0x0A ∷ 0x0E ∷ []) L (gives (0x8C ∷ 0x8D ∷ 0x15 ∷ 0x0E ∷ []) 7)
     ∷ within plain 1000 3 (0x20 ∷ 0x0A ∷ 0x0E ∷ []) none L (refuses 13 (needingAt 4 7))
     ∷ row (0xFF ∷ 0xFF ∷ 0x95 ∷ 0x00 ∷ 0x00 ∷ 0x0A ∷ 0x0E ∷ []) L (gives (0x8C ∷ 0x8D ∷ 0x15 ∷ 0x0E ∷ []) 7)
-    ∷ row (0x1C ∷ 0x00 ∷ 0x05 ∷ 0x0E ∷ []) none (gives (0x90 ∷ 0x0E ∷ []) 2)
+    ∷ row (0x1C ∷ 0x00 ∷ 0x05 ∷ 0x0E ∷ []) none (says (0x90 ∷ 0x0E ∷ []) 2 (whole 5))
     ∷ row (0x0B ∷ 0x00 ∷ []) none (gives [] 1)
     ∷ row (0x21 ∷ 0x20 ∷ 0x0A ∷ 0x0E ∷ [])
     (0x00 ∷ 0x02 ∷ 0x01 ∷ 0x01 ∷ 0x02 ∷ 0x04 ∷ 0x0A ∷ 0x8C ∷ 0x16 ∷ []) (gives (0x8C ∷ 0x16 ∷ 0x0E ∷ []) 7)
@@ -89,7 +99,7 @@ starred =
     (gives (0x8B ∷ 0x8C ∷ 0x01 ∷ 0x8B ∷ 0x8C ∷ 0x13 ∷ 0x80 ∷ 0x0E ∷ []) 7)
     ∷ row (0x13 ∷ 0x0E ∷ []) none (gives (0x13 ∷ 0x0E ∷ []) 2)
     ∷ row (0x8B ∷ 0x8B ∷ 0x8B ∷ 0x8B ∷ 0x0E ∷ []) none (refuses 12 (atToken 5))
-    ∷ row (0x8B ∷ 0x8B ∷ 0x8B ∷ 0x0E ∷ []) none (gives (0x8B ∷ 0x8B ∷ 0x8B ∷ 0x0E ∷ []) 4)
+    ∷ row (0x8B ∷ 0x8B ∷ 0x8B ∷ 0x0E ∷ []) none (says (0x8B ∷ 0x8B ∷ 0x8B ∷ 0x0E ∷ []) 4 (whole 0))
     ∷ row (0x8B ∷ 0x8C ∷ 0x01 ∷ 0x13 ∷ 0x80 ∷ 0x20 ∷ 0x13 ∷ 0x80 ∷ 0x0A ∷ []) L (refuses 8 (atToken 7))
     ∷ row (0x20 ∷ 0x0A ∷ []) itself (refuses 10 (atToken 128))
     ∷ within plain 127 32 (0x20 ∷ 0x0A ∷ []) none itself (refuses 3 (atToken 127))
@@ -144,7 +154,7 @@ more =
 
 -- plain, without a level below the charstring
 abbrev shallow : Rules
-shallow = record { operands = 48; levels = 0; hints = 65535; exact = false; clean = false; finished = false; width = 2; kind = type2 }
+shallow = record { operands = 48; levels = 0; hints = 65535; exact = false; clean = false; finished = false; width = 2; kind = type2; takes = type2Takes }
 
 -- an operand in front of a mask whose length is fixed, and a call behind it: the index does not stand last
 abbrev behindMask : List ℕ → List ℕ
@@ -246,6 +256,81 @@ endsInTurn =
     ∷ within strict 0 32 [] none [] (refuses 2 (because 20 alone))
     ∷ []
 
+-- ---- the advance width
+
+-- a flat string that comes back in so many tokens, without a width, and with the width 1
+abbrev silent : List ℕ → ℕ → Row
+silent cs t = row cs none (gives cs t)
+
+abbrev saying : List ℕ → ℕ → Row
+saying cs t = row cs none (says cs t (whole 1))
+
+abbrev pub widthsAtStems : List Row
+widthsAtStems =
+    -- a stem and a mask take pairs
+    saying (0x8C ∷ 0x01 ∷ []) 2
+    ∷ silent (0x8C ∷ 0x8D ∷ 0x01 ∷ []) 3
+    ∷ saying (0x8C ∷ 0x8D ∷ 0x8E ∷ 0x01 ∷ []) 4
+    ∷ silent (0x8C ∷ 0x8D ∷ 0x03 ∷ []) 3
+    ∷ saying (0x8C ∷ 0x8D ∷ 0x8E ∷ 0x03 ∷ []) 4
+    ∷ saying (0x8C ∷ 0x8D ∷ 0x8E ∷ 0x12 ∷ []) 4
+    ∷ saying (0x8C ∷ 0x8D ∷ 0x8E ∷ 0x17 ∷ []) 4
+    ∷ silent (0x8C ∷ 0x8D ∷ 0x8E ∷ 0x8F ∷ 0x17 ∷ []) 5
+    ∷ saying (0x8C ∷ 0x13 ∷ []) 2
+    ∷ silent (0x8C ∷ 0x8D ∷ 0x13 ∷ 0x80 ∷ []) 3
+    ∷ saying (0x8C ∷ 0x8D ∷ 0x8E ∷ 0x13 ∷ 0x80 ∷ []) 4
+    ∷ saying (0x8C ∷ 0x8D ∷ 0x8E ∷ 0x14 ∷ 0x80 ∷ []) 4
+    -- the first operator settles it: a mask before any operand, a stem, a mask whose length is fixed later
+    ∷ silent (0x13 ∷ 0x8C ∷ 0x0E ∷ []) 3
+    ∷ silent (0x13 ∷ 0x8C ∷ 0x13 ∷ []) 3
+    ∷ silent (0x8C ∷ 0x8D ∷ 0x01 ∷ 0x8C ∷ 0x8D ∷ 0x8E ∷ 0x03 ∷ []) 7
+    ∷ silent (0x8C ∷ 0x8D ∷ 0x13 ∷ 0x80 ∷ 0x8E ∷ 0x13 ∷ 0x80 ∷ 0x0E ∷ []) 6
+    ∷ []
+
+abbrev pub widthsAtMoves : List Row
+widthsAtMoves =
+    -- rmoveto takes two, hmoveto and vmoveto one, endchar none
+    silent (0x8C ∷ 0x15 ∷ []) 2
+    ∷ silent (0x8C ∷ 0x8D ∷ 0x15 ∷ []) 3
+    ∷ saying (0x8C ∷ 0x8D ∷ 0x8E ∷ 0x15 ∷ []) 4
+    ∷ saying (0x8C ∷ 0x8D ∷ 0x8E ∷ 0x8F ∷ 0x15 ∷ []) 5
+    ∷ silent (0x16 ∷ []) 1
+    ∷ silent (0x8C ∷ 0x16 ∷ []) 2
+    ∷ saying (0x8C ∷ 0x8D ∷ 0x16 ∷ []) 3
+    ∷ silent (0x04 ∷ []) 1
+    ∷ silent (0x8C ∷ 0x04 ∷ []) 2
+    ∷ saying (0x8C ∷ 0x8D ∷ 0x04 ∷ []) 3
+    ∷ silent (0x0E ∷ []) 1
+    ∷ saying (0x8C ∷ 0x0E ∷ []) 2
+    ∷ saying (0x8C ∷ 0x8D ∷ 0x8E ∷ 0x0E ∷ []) 4
+    -- a later one finds it settled
+    ∷ silent (0x8C ∷ 0x8D ∷ 0x15 ∷ 0x8C ∷ 0x8D ∷ 0x8E ∷ 0x15 ∷ []) 7
+    ∷ saying (0x8C ∷ 0x8D ∷ 0x8E ∷ 0x15 ∷ 0x8F ∷ 0x8F ∷ 0x8F ∷ 0x15 ∷ []) 8
+    ∷ silent (0x8C ∷ 0x8D ∷ 0x15 ∷ 0x8C ∷ 0x0E ∷ []) 5
+    ∷ []
+
+abbrev pub otherWidths : List Row
+otherWidths =
+    -- another operator that clears the stack came first, one byte or escaped; or none at all
+    silent (0x8B ∷ 0x05 ∷ 0x8C ∷ 0x0E ∷ []) 4
+    ∷ silent (0x8C ∷ 0x18 ∷ []) 2
+    ∷ silent (0x8C ∷ 0x0C ∷ 0x23 ∷ 0x8C ∷ 0x0E ∷ []) 4
+    ∷ silent (0x8C ∷ []) 1
+    -- a Fixed, by its bits, and an integer below 0
+    ∷ row (0xFF ∷ 0x00 ∷ 0x05 ∷ 0x80 ∷ 0x00 ∷ 0x0E ∷ []) none (says (0xFF ∷ 0x00 ∷ 0x05 ∷ 0x80 ∷ 0x00 ∷ 0x0E ∷ []) 2 (record { fixed = true; value = pos 360448 }))
+    ∷ row (0xFF ∷ 0xFF ∷ 0xFF ∷ 0x80 ∷ 0x00 ∷ 0x0E ∷ []) none (says (0xFF ∷ 0xFF ∷ 0xFF ∷ 0x80 ∷ 0x00 ∷ 0x0E ∷ []) 2 (record { fixed = true; value = negsuc 32767 }))
+    ∷ row (0x8A ∷ 0x8B ∷ 0x16 ∷ []) none (says (0x8A ∷ 0x8B ∷ 0x16 ∷ []) 3 (record { fixed = false; value = negsuc 0 }))
+    -- seen through a call; in a subroutine, also without its caller's endchar; left by one; and not a call's index
+    ∷ row (0x8C ∷ 0x20 ∷ 0x0A ∷ 0x0E ∷ []) L (says (0x8C ∷ 0x8C ∷ 0x8D ∷ 0x15 ∷ 0x0E ∷ []) 8 (whole 1))
+    ∷ row (0x20 ∷ 0x0A ∷ []) (only (0x8C ∷ 0x0E ∷ [])) (says (0x8C ∷ 0x0E ∷ []) 4 (whole 1))
+    ∷ row (0x20 ∷ 0x0A ∷ 0x0E ∷ []) (only (0x8C ∷ 0x8D ∷ 0x16 ∷ [])) (says (0x8C ∷ 0x8D ∷ 0x16 ∷ 0x0E ∷ []) 6 (whole 1))
+    ∷ row (0x20 ∷ 0x0A ∷ 0x0E ∷ []) (only (0x8C ∷ 0x0B ∷ [])) (says (0x8C ∷ 0x0E ∷ []) 5 (whole 1))
+    ∷ row (0x20 ∷ 0x0A ∷ 0x8D ∷ 0x16 ∷ []) (only (0x8C ∷ [])) (says (0x8C ∷ 0x8D ∷ 0x16 ∷ []) 5 (whole 1))
+    ∷ row (0x20 ∷ 0x0A ∷ 0x0E ∷ []) L (gives (0x8C ∷ 0x8D ∷ 0x15 ∷ 0x0E ∷ []) 7)
+    -- in strict it is the same
+    ∷ strictly (0x8C ∷ 0x8D ∷ 0x8E ∷ 0x13 ∷ 0x80 ∷ 0x0E ∷ []) none (says (0x8C ∷ 0x8D ∷ 0x8E ∷ 0x13 ∷ 0x80 ∷ 0x0E ∷ []) 5 (whole 1))
+    ∷ []
+
 -- ---- a third rule set
 
 -- no profile's: a value of the code's record, and the runner's proof is over any such value
@@ -253,7 +338,7 @@ abbrev pub third : CodeRules
 third = record { operands = 513; levels = 10; hints = 96; ends = false; exact = true; clean = false; finished = false; width = Four }
 
 pub third-meant : meant third
-    ≡ record { operands = 513; levels = 10; hints = 96; exact = true; clean = false; finished = false; width = 4; kind = kindBy false }
+    ≡ record { operands = 513; levels = 10; hints = 96; exact = true; clean = false; finished = false; width = 4; kind = kindBy false; takes = type2Takes }
 third-meant = refl
 
 abbrev noneWide : List ℕ
@@ -276,13 +361,14 @@ thirds =
     ∷ byThird (replicate 49 0x8B ++ (0x05 ∷ [])) (gives (replicate 49 0x8B ++ (0x05 ∷ [])) 50)
     ∷ []
 
--- one theorem over the reading's definition for all seven lists
-pub rows-hold : All starred × All more × All competing × All masksInStrict × All endsInStrict × All endsInTurn × All thirds
+-- one theorem over the reading's definition for all ten lists
+pub rows-hold : All starred × All more × All competing × All masksInStrict × All endsInStrict × All endsInTurn
+    × All widthsAtStems × All widthsAtMoves × All otherWidths × All thirds
 unfolding expectedBy into readyBy judged outcome listGate flattening
     beAt bytesOf signed unsigned integerRows rowsOf rowOf valueBy numberBy readBy formBy spell bytes bytesBy spelling
     bitLength counts callIndex entryOf biased callee
     offset byLast bySize byCount extent placeBy placeIn place partBytes part unless entriesFrom formedBy formation
-    byteKind escapedKind kindBy countIn entryBy subrsOf listsOf escapedAt operatorAt cutBy cut
+    byteKind escapedKind kindBy byteTakes type2Takes bottom byKind leaves countIn entryBy subrsOf listsOf escapedAt operatorAt cutBy cut
     struck tokensBy endsInOperand admitted onNumber onStem onMask onEnd onEntry onIndex onCall onOperator onCut onToken
     resume after tokensOf read reading spelled flat
 rows-hold = (
@@ -292,6 +378,9 @@ rows-hold = (
   (refl, (refl, (refl, (refl, (refl, (refl, (refl, (refl, (refl, (refl, (refl, (refl, (refl, (refl, tt)))))))))))))),
   (refl, (refl, (refl, (refl, (refl, (refl, (refl, (refl, (refl, (refl, (refl, tt))))))))))),
   (refl, (refl, (refl, (refl, (refl, (refl, (refl, (refl, tt)))))))),
+  (refl, (refl, (refl, (refl, (refl, (refl, (refl, (refl, (refl, (refl, (refl, (refl, (refl, (refl, (refl, (refl, tt)))))))))))))))),
+  (refl, (refl, (refl, (refl, (refl, (refl, (refl, (refl, (refl, (refl, (refl, (refl, (refl, (refl, (refl, (refl, tt)))))))))))))))),
+  (refl, (refl, (refl, (refl, (refl, (refl, (refl, (refl, (refl, (refl, (refl, (refl, (refl, (refl, tt)))))))))))))),
   (refl, (refl, (refl, (refl, tt)))),
 )
 

@@ -10,6 +10,8 @@ use Rattle.reading.specs.declared.Operator.{Operator}
 use Rattle.reading.specs.declared.Which.the-variants.{Local, Global}
 use Rattle.reading.specs.declared.Kind.{Kind}
 use Rattle.reading.specs.declared.Kind.the-variants.{Stem, Clear, Mask, Call, Return, End, Unknown}
+use Rattle.reading.specs.declared.Takes.{Takes}
+use Rattle.reading.specs.declared.Takes.the-variants.{Pairs, UpTo, All}
 use Rattle.reading.specs.declared.Profile.{Profile}
 use Rattle.reading.specs.declared.Profile.the-variants.{Plain, Strict}
 
@@ -22,6 +24,7 @@ pub record Rules : Type 0 where
   pub finished : Bool  -- whether a charstring must end by endchar
   pub width : ℕ  -- how many bytes the count of a list has
   pub kind : Operator → Kind  -- what an operator is
+  pub takes : Operator → Takes  -- how many operands an operator takes itself
 
 abbrev pub among : ℕ → List ℕ → Bool
 among b [] = false
@@ -53,12 +56,24 @@ kindBy ends p = cond (p .escaped) (escapedKind (p .byte)) (byteKind ends (p .byt
 abbrev pub type2 : Operator → Kind
 type2 = kindBy true
 
+-- how many operands an operator of one byte takes itself: a stem and a mask pairs, rmoveto two, hmoveto and vmoveto one, endchar none;
+-- behind another that clears the stack there is no width
+unfoldable pub byteTakes : ℕ → Takes
+byteTakes b =
+    cond (among b (1 ∷ 3 ∷ 18 ∷ 19 ∷ 20 ∷ 23 ∷ [])) Pairs
+    (cond (eqb b 21) (UpTo 2)
+    (cond (among b (4 ∷ 22 ∷ [])) (UpTo 1)
+    (cond (eqb b 14) (UpTo 0) All)))
+
+unfoldable pub type2Takes : Operator → Takes
+type2Takes p = cond (p .escaped) All (byteTakes (p .byte))
+
 abbrev pub plain : Rules
-plain = record { operands = 48; levels = 63; hints = 65535; exact = false; clean = false; finished = false; width = 2; kind = type2 }
+plain = record { operands = 48; levels = 63; hints = 65535; exact = false; clean = false; finished = false; width = 2; kind = type2; takes = type2Takes }
 
 -- TN5177, appendix B: ten nested calls, and 96 stem hints; section 4: endchar last; section 4.3: operands at a mask only as stems, before the first
 abbrev pub strict : Rules
-strict = record { operands = 48; levels = 10; hints = 96; exact = true; clean = true; finished = true; width = 2; kind = type2 }
+strict = record { operands = 48; levels = 10; hints = 96; exact = true; clean = true; finished = true; width = 2; kind = type2; takes = type2Takes }
 
 abbrev pub rulesOf : Profile → Rules
 rulesOf Plain = plain
@@ -76,4 +91,5 @@ meant r =
       finished = r .finished;
       width = widthOf (r .width);
       kind = kindBy (r .ends);
+      takes = type2Takes;
     }

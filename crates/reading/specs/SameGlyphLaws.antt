@@ -18,7 +18,7 @@ use Rattle.reading.specs.Rules.{Rules}
 use Rattle.reading.specs.Lists.{Lists, present, entryBy, subrsOf, listsOf}
 use Rattle.reading.specs.Tokens.{Bytes}
 use Rattle.reading.specs.CutLaws.{bytes-drop}
-use Rattle.reading.specs.Items.{Item}
+use Rattle.reading.specs.Items.{Item, Left, leftBy, advanceIn}
 use Rattle.reading.specs.Reading.{Shown, struck, State, Ending, back, ended, stopped, Accepted, Run, tokens, reading, original}
 use Rattle.reading.specs.Flat.{flat, Straight, straight}
 use Rattle.reading.specs.Answers.{Flattening, flatOf, flatReady, outcome, flattening}
@@ -29,6 +29,7 @@ use Rattle.reading.specs.SizeLaws.{struck-fewer}
 use Rattle.reading.specs.Valid.{Valid, none, number-behind, stem-behind, clear-behind, mask-behind, Whole, open-ended, end-behind, Ends, ByteLists}
 use Rattle.reading.specs.ValidLaws.{run-ends}
 use Rattle.reading.specs.StraightLaws.{whole-back, struck-shown, count-shown, Just, read-again}
+use Rattle.reading.specs.declared.Advance.{Advance}
 use Rattle.reading.specs.declared.Which.the-variants.{Local, Global}
 use Rattle.reading.specs.declared.Kind.{Kind}
 use Rattle.reading.specs.declared.Kind.the-variants.{Stem, Clear, Mask}
@@ -51,6 +52,12 @@ module _ (rules : Rules) where
 
 -- ---- the items of a run that came to its end
 
+-- what they leave is what the run left
+left-agrees : (rules : Rules) (e : Ending) (s : State) → Ends rules e s → leftBy rules (struck (s .shown)) ≡ s .left
+left-agrees rules back s g = g .agree
+left-agrees rules ended s g = g .agree
+left-agrees rules (stopped n) s g = g .agree
+
 accepted-whole : (rules : Rules) (e : Ending) (s : State) → Accepted e → Ends rules e s → Whole rules e (struck (s .shown))
 accepted-whole rules back s a g = open-ended (struck (s .shown)) (g .valid)
 accepted-whole rules ended s a g = g .whole
@@ -66,6 +73,11 @@ module _ (rules : Rules) (lists : Lists) (budget : ℕ) (cs : List ℕ) (entries
   whole =
       let r = reading rules lists budget cs in
       accepted-whole rules (r .how) (r .state) a (run-ends rules lists budget entries-bytes cs bytes)
+
+  pub advance-of : reading rules lists budget cs .state .left .advance ≡ advanceIn rules left-over
+  advance-of =
+      let r = reading rules lists budget cs in
+      ap (λ (y : Left). y .advance) (sym (left-agrees rules (r .how) (r .state) (run-ends rules lists budget entries-bytes cs bytes)))
 
   -- Read straight through, F shows exactly those items, in order, and consumes every byte.
   pub same-glyph : straight rules (flatOf (reading rules lists budget cs)) ≡ record { items = left-over; rest = [] }
@@ -83,7 +95,7 @@ module _ (rules : Rules) (lists : Lists) (budget : ℕ) (cs : List ℕ) (entries
 
   -- and F read again, with any lists, ends as it did and shows just its items.
   pub just-again : (other : Lists) (n : ℕ) → length left-over ≤ n
-      → Just (reading rules lists budget cs .how) left-over (reading rules other n (flatOf (reading rules lists budget cs)))
+      → Just rules (reading rules lists budget cs .how) left-over (reading rules other n (flatOf (reading rules lists budget cs)))
   just-again other n h = read-again rules other n _ left-over whole h
 
 -- ---- flattening a flat string again
@@ -116,11 +128,12 @@ zeros-formed w =
 pub empty-formed : (rules : Rules) → formation (rules .width) (empty rules) ≡ accepted 0
 empty-formed rules = zeros-formed (rules .width)
 
-abbrev gives : List Item → List ℕ → Outcome (Answer Flattening)
-gives f out = leaving (accepted (record { size = length (flat f); tokens = length f })) (flat f ++ drop (length (flat f)) out)
+abbrev gives : Rules → List Item → List ℕ → Outcome (Answer Flattening)
+gives rules f out =
+    leaving (accepted (record { size = length (flat f); tokens = length f; advance = advanceIn rules f })) (flat f ++ drop (length (flat f)) out)
 
 -- a run that is just these items, ends as the rules want, and room for their bytes
-module _ (rules : Rules) (e : Ending) (a : AcceptedBy rules e) (f : List Item) (out : List ℕ) (r : Run) (j : Just e f r)
+module _ (rules : Rules) (e : Ending) (a : AcceptedBy rules e) (f : List Item) (out : List ℕ) (r : Run) (j : Just rules e f r)
     (h : length (flat f) ≤ length out) where
   bytes-are : flatOf r ≡ flat f
   bytes-are = ap (λ (s : List Shown). flat (struck s)) (j .shown) ∙ ap flat (struck-shown f)
@@ -134,13 +147,20 @@ module _ (rules : Rules) (e : Ending) (a : AcceptedBy rules e) (f : List Item) (
   tokens-are : tokens r ≡ length f
   tokens-are = accepted-tokens (r .how) (length (r .state .shown)) (came-to-end rules (r .how) as-wanted) ∙ count-is
 
-  fits-it : into out (accepted (flatReady r)) ≡ gives f out
+  says : r .state .left .advance ≡ advanceIn rules f
+  says = ap (λ (y : Left). y .advance) (j .left)
+
+  fits-it : into out (accepted (flatReady r)) ≡ gives rules f out
   fits-it =
       into-fits out (flatReady r) (subst (λ (l : List ℕ). length l ≤ length out) (sym bytes-are) h)
-      ∙ ap (λ (n : ℕ). leaving (accepted (record { size = length (flatOf r); tokens = n })) (flatOf r ++ drop (length (flatOf r)) out)) tokens-are
-      ∙ ap (λ (l : List ℕ). leaving (accepted (record { size = length l; tokens = length f })) (l ++ drop (length l) out)) bytes-are
+      ∙ ap (λ (w : Advance). leaving (accepted (record { size = length (flatOf r); tokens = tokens r; advance = w })) (laid (flatOf r))) says
+      ∙ ap (λ (n : ℕ). leaving (accepted (record { size = length (flatOf r); tokens = n; advance = advanceIn rules f })) (laid (flatOf r))) tokens-are
+      ∙ ap (λ (l : List ℕ). leaving (accepted (record { size = length l; tokens = length f; advance = advanceIn rules f })) (laid l)) bytes-are
+    where
+      laid : List ℕ → List ℕ
+      laid l = l ++ drop (length l) out
 
-  just-outcome : outcome rules out r ≡ gives f out
+  just-outcome : outcome rules out r ≡ gives rules f out
   unfolding outcome
   just-outcome = ap (into out) (judged-accepted rules r as-wanted) ∙ fits-it
 
@@ -212,11 +232,14 @@ module _ (rules : Rules) (cs globals locals : List ℕ) (budget : ℕ) (out : Li
   pub items-are : straight rules (reported rules cs globals locals budget out x) .items ≡ items
   items-are = ap (λ (f : List ℕ). straight rules f .items) reported-is ∙ ap (λ (y : Straight). y .items) shown-is
 
+  pub advance-is : x .advance ≡ advanceIn rules items
+  advance-is = took .advance-is ∙ advance-of rules lists budget cs entries bytes to-its-end
+
   enough : length items ≤ x .tokens
   enough = subst (λ (n : ℕ). length items ≤ n) (sym (took .tokens-are)) (items-tokens rules lists budget cs entries bytes to-its-end)
 
   flattened-again : (out₁ : List ℕ) → x .size ≤ length out₁
-      → flattening rules (flatOf run) (empty rules) (empty rules) (x .tokens) out₁ ≡ gives items out₁
+      → flattening rules (flatOf run) (empty rules) (empty rules) (x .tokens) out₁ ≡ gives rules items out₁
   unfolding flattening
   flattened-again out₁ h =
       let j = just-again rules lists budget cs entries bytes to-its-end (listsOf (rules .width) (empty rules) (empty rules)) (x .tokens) enough in
@@ -225,15 +248,26 @@ module _ (rules : Rules) (cs globals locals : List ℕ) (budget : ℕ) (out : Li
       ∙ just-outcome rules (run .how) (took .accepted-by) items out₁ (original rules (flatOf run) (empty rules) (empty rules) (x .tokens)) j
       (subst (λ (n : ℕ). n ≤ length out₁) (took .size) h)
 
+  -- in the words of the answer and of F
+  same-answer : (out₁ : List ℕ) → gives rules items out₁
+      ≡ leaving (accepted (record { size = x .size; tokens = length (straight rules (flatOf run) .items); advance = x .advance }))
+      (flatOf run ++ drop (x .size) out₁)
+  same-answer out₁ =
+      ap (λ (n : ℕ). leaving (accepted (record { size = n; tokens = length items; advance = advanceIn rules items })) (laid n)) (sym (took .size))
+      ∙ ap (λ (w : Advance). leaving (accepted (record { size = x .size; tokens = length items; advance = w })) (laid (x .size))) (sym advance-is)
+      ∙ ap (λ (y : Straight). leaving (accepted (record { size = x .size; tokens = length (y .items); advance = x .advance })) (laid (x .size)))
+      (sym shown-is)
+    where
+      laid : ℕ → List ℕ
+      laid n = flatOf run ++ drop n out₁
+
   pub same-items : SameGlyph rules cs globals locals budget x (flatOf run)
   same-items =
       record {
         size = sym (took .size);
         shows = shown-is;
         flat-items = no-calls rules lists budget cs entries bytes to-its-end;
-        again = λ out₁ h. flattened-again out₁ h
-            ∙ ap (λ (n : ℕ). leaving (accepted (record { size = n; tokens = length items })) (flatOf run ++ drop n out₁)) (sym (took .size))
-            ∙ ap (λ (y : Straight). leaving (accepted (record { size = x .size; tokens = length (y .items) })) (flatOf run ++ drop (x .size) out₁))
-            (sym shown-is);
+        width = ap (λ (y : Straight). advanceIn rules (y .items)) shown-is ∙ sym advance-is;
+        again = λ out₁ h. flattened-again out₁ h ∙ same-answer out₁;
         fewer = subst (λ (y : Straight). length (y .items) ≤ x .tokens) (sym shown-is) enough;
       }

@@ -11,7 +11,7 @@ use Rattle.number.specs.RoundTripLaws.{spelling-most}
 use Rattle.reading.specs.Rules.{Rules}
 use Rattle.reading.specs.Lists.{Lists}
 use Rattle.reading.specs.Tokens.{Bytes}
-use Rattle.reading.specs.Items.{Item, operand, bare, masked, Left, atMask, byKind, leaves, leftBy}
+use Rattle.reading.specs.Items.{Item, operand, bare, masked, Left, firstMask, atMask, byKind, leaves, leftBy}
 use Rattle.reading.specs.Reading.{Shown, item, call, return, struck, State, Ending, back, ended, stopped, reading}
 use Rattle.reading.specs.Flat.{operatorBytes, spelled, flat}
 use Rattle.reading.specs.Valid.{Valid, none, number-behind, stem-behind, clear-behind, mask-behind, Whole, open-ended, end-behind, Ends, ByteLists}
@@ -29,11 +29,7 @@ module _ (rules : Rules) where
   at-mask : (x : Left) → x .mask ≤ longestMask rules → atMask x .hints ≤ rules .hints → atMask x .mask ≤ longestMask rules
   at-mask x h k = go (eqb (x .mask) 0) k
     where
-      n : ℕ
-      n = x .hints + length (x .operands) / 2
-
-      go : (t : Bool) → cond t (record { operands = []; hints = n; mask = (n + 7) / 8 }) x .hints ≤ rules .hints
-          → cond t (record { operands = []; hints = n; mask = (n + 7) / 8 }) x .mask ≤ longestMask rules
+      go : (t : Bool) → cond t (firstMask x) x .hints ≤ rules .hints → cond t (firstMask x) x .mask ≤ longestMask rules
       go true k = omega arith
       go false k = h
 

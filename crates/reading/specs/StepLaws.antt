@@ -16,7 +16,7 @@ use Rattle.number.specs.declared.Operand.{Operand}
 use Rattle.reading.specs.Rules.{Rules}
 use Rattle.reading.specs.Lists.{Lists, Entry, present, absent, listed}
 use Rattle.reading.specs.Tokens.{number, operator, Cut, token, lacking, cut}
-use Rattle.reading.specs.Items.{operand, bare, masked, pushed, cleared, counted, atMask, leftOver}
+use Rattle.reading.specs.Items.{operand, bare, masked, counted, atMask, leftOver}
 use Rattle.reading.specs.Reading.{Entering, struck, State, back, ended, Step, halt, go, enter, refuse, shows, entered, returned, endsInOperand}
 use Rattle.reading.specs.Reading.{admitted, onNumber, onStem, onMask, onEnd, onEntry, onIndex, onCall, onOperator, onCut, onToken}
 use Rattle.reading.specs.declared.Operator.{Operator}
@@ -27,15 +27,15 @@ use Rattle.reading.specs.declared.Kind.the-variants.{Stem, Clear, Mask, 
 -- where a token that is taken leads
 pub data Goes (rules : Rules) (lists : Lists) (levels at : ℕ) (bytes : List ℕ) (s : State) : Step → Type 0 where
   pushes : (o : Operand) (rest : List ℕ) → cut bytes ≡ token (number o) rest → length (s .left .operands) < rules .operands
-      → Goes rules lists levels at bytes s (go rest (shows (operand o) (pushed o (s .left)) s))
+      → Goes rules lists levels at bytes s (go rest (shows rules (operand o) s))
   stems : (p : Operator) (rest : List ℕ) → cut bytes ≡ token (operator p) rest → rules .kind p ≡ Stem → counted (s .left) .hints ≤ rules .hints
-      → Goes rules lists levels at bytes s (go rest (shows (bare p) (counted (s .left)) s))
+      → Goes rules lists levels at bytes s (go rest (shows rules (bare p) s))
   clears : (p : Operator) (rest : List ℕ) → cut bytes ≡ token (operator p) rest → rules .kind p ≡ Clear
-      → Goes rules lists levels at bytes s (go rest (shows (bare p) (cleared (s .left)) s))
+      → Goes rules lists levels at bytes s (go rest (shows rules (bare p) s))
   masks : (p : Operator) (rest : List ℕ) → cut bytes ≡ token (operator p) rest → rules .kind p ≡ Mask
       → leftOver rules (s .left) ≡ false → atMask (s .left) .hints ≤ rules .hints → atMask (s .left) .mask ≤ length rest
       → Goes rules lists levels at bytes s
-      (go (drop (atMask (s .left) .mask) rest) (shows (masked p (take (atMask (s .left) .mask) rest)) (atMask (s .left)) s))
+      (go (drop (atMask (s .left) .mask) rest) (shows rules (masked p (take (atMask (s .left) .mask) rest)) s))
   enters : (p : Operator) (rest : List ℕ) (c : Entering) (ops : List Operand) (body : List ℕ) → cut bytes ≡ token (operator p) rest
       → rules .kind p ≡ Call (c .list) → c .at ≡ at → s .left .operands ≡ c .index ∷ ops
       → callee (rules .exact) (listed lists (c .list) .count) (c .index) ≡ accepted (c .entry) → listed lists (c .list) .entry (c .entry) ≡ present body
@@ -44,7 +44,7 @@ pub data Goes (rules : Rules) (lists : Lists) (levels at : ℕ) (bytes : List �
   returns : (p : Operator) (rest : List ℕ) → cut bytes ≡ token (operator p) rest → rules .kind p ≡ Return
       → Goes rules lists levels at bytes s (halt back (returned s))
   ends : (p : Operator) (rest : List ℕ) → cut bytes ≡ token (operator p) rest → rules .kind p ≡ End → length (s .left .operands) < 4
-      → Goes rules lists levels at bytes s (halt ended (shows (bare p) (s .left) s))
+      → Goes rules lists levels at bytes s (halt ended (shows rules (bare p) s))
 
 -- why a token that was begun is refused: with a number of 4 to 12 but 8; with 8, where an operand waits but does not stand last; or with 15
 pub data Declined (rules : Rules) (s : State) : ℕ → Type 0 where
@@ -190,22 +190,22 @@ module _ (rules : Rules) (lists : Lists) (budget levels at : ℕ) (bytes : List 
   on-number o rest q = rw q
 
   number-taken : (o : Operand) (rest : List ℕ) → length (s .left .operands) < rules .operands
-      → onNumber rules rest s o ≡ go rest (shows (operand o) (pushed o (s .left)) s)
+      → onNumber rules rest s o ≡ go rest (shows rules (operand o) s)
   unfolding onNumber
   number-taken o rest l = rw (lt-ltb (length (s .left .operands)) (rules .operands) l)
 
   module _ (p : Operator) (rest : List ℕ) where
-    stem-taken : counted (s .left) .hints ≤ rules .hints → onOperator rules lists levels at rest s p Stem ≡ go rest (shows (bare p) (counted (s .left)) s)
+    stem-taken : counted (s .left) .hints ≤ rules .hints → onOperator rules lists levels at rest s p Stem ≡ go rest (shows rules (bare p) s)
     unfolding onOperator onStem
     stem-taken l = rw (le-leb (counted (s .left) .hints) (rules .hints) l)
 
-    clear-taken : onOperator rules lists levels at rest s p Clear ≡ go rest (shows (bare p) (cleared (s .left)) s)
+    clear-taken : onOperator rules lists levels at rest s p Clear ≡ go rest (shows rules (bare p) s)
     unfolding onOperator
     clear-taken = refl
 
     mask-taken : leftOver rules (s .left) ≡ false → atMask (s .left) .hints ≤ rules .hints → atMask (s .left) .mask ≤ length rest
         → onOperator rules lists levels at rest s p Mask
-        ≡ go (drop (atMask (s .left) .mask) rest) (shows (masked p (take (atMask (s .left) .mask) rest)) (atMask (s .left)) s)
+        ≡ go (drop (atMask (s .left) .mask) rest) (shows rules (masked p (take (atMask (s .left) .mask) rest)) s)
     unfolding onOperator onMask
     mask-taken w l m = rw (w, le-leb (atMask (s .left) .hints) (rules .hints) l, le-leb (atMask (s .left) .mask) (length rest) m)
 
@@ -213,7 +213,7 @@ module _ (rules : Rules) (lists : Lists) (budget levels at : ℕ) (bytes : List 
     unfolding onOperator
     return-taken = refl
 
-    end-taken : length (s .left .operands) < 4 → onOperator rules lists levels at rest s p End ≡ halt ended (shows (bare p) (s .left) s)
+    end-taken : length (s .left .operands) < 4 → onOperator rules lists levels at rest s p End ≡ halt ended (shows rules (bare p) s)
     unfolding onOperator onEnd
     end-taken l = rw (lt-ltb (length (s .left .operands)) 4 l)
 

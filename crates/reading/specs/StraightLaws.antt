@@ -14,7 +14,7 @@ use Rattle.number.specs.declared.Operand.{Operand}
 use Rattle.reading.specs.Rules.{Rules}
 use Rattle.reading.specs.Lists.{Lists}
 use Rattle.reading.specs.Tokens.{number, token, cutBy, cut}
-use Rattle.reading.specs.Items.{Item, operand, bare, masked, Left, pushed, cleared, counted, atMask, leftOver, byKind, leaves, leftBy}
+use Rattle.reading.specs.Items.{Item, operand, bare, masked, counted, atMask, leftOver, leftBy}
 use Rattle.reading.specs.Reading.{
   Shown,
   item,
@@ -203,49 +203,41 @@ module _ (rules : Rules) where
           ∙ ap (after (λ more t. runs fuel more t) below) (token-goes rules lists budget levels (size - length bytes) bytes (stateOf f) begins x g)
 
       -- a token that leads on to z with the item shown
-      led : (i : Item) (x : Left) (fuel : ℕ) (bytes z : List ℕ) → 0 < length bytes → leaves rules i (leftBy rules f) ≡ x
-          → Leads f bytes (go z (shows i x (stateOf f))) → runs (suc fuel) bytes (stateOf f) ≡ runs fuel z (stateOf (i ∷ f))
+      led : (i : Item) (fuel : ℕ) (bytes z : List ℕ) → 0 < length bytes → Leads f bytes (go z (shows rules i (stateOf f)))
+          → runs (suc fuel) bytes (stateOf f) ≡ runs fuel z (stateOf (i ∷ f))
       unfolding after leftBy shownOf
-      led i x fuel bytes z h e g =
-          follows fuel bytes h _ g
-          ∙ ap (λ (y : Left). runs fuel z (record { left = y; shown = item i ∷ shownOf f; within = [] })) (sym e)
+      led i fuel bytes z h g = follows fuel bytes h _ g
 
       number-again : (o : Operand) → Spellable false o → length (leftBy rules f .operands) < rules .operands → OneAgain f (operand o)
-      unfolding spelled leaves
+      unfolding spelled
       number-again o p l fuel z =
           let bytes = spelling charstringRows o in
-          led (operand o) (pushed o (leftBy rules f)) fuel (bytes ++ z) z (some rules bytes z (spelling-some false o p)) refl
+          led (operand o) fuel (bytes ++ z) z (some rules bytes z (spelling-some false o p))
           (pushes o z (number-cut o p z) l)
 
       module _ (p : Operator) (c : Cuttable p) where
         there : (z : List ℕ) → 0 < length (operatorBytes p ++ z)
         there z = some rules (operatorBytes p) z (operator-some p)
 
-        bare-leaves : (k : Kind) → rules .kind p ≡ k → leaves rules (bare p) (leftBy rules f) ≡ byKind k (leftBy rules f)
-        unfolding leaves
-        bare-leaves k e = ap (λ (y : Kind). byKind y (leftBy rules f)) e
-
         stem-again : rules .kind p ≡ Stem → counted (leftBy rules f) .hints ≤ rules .hints → OneAgain f (bare p)
-        unfolding spelled byKind
-        stem-again k l fuel z =
-            led (bare p) (counted (leftBy rules f)) fuel (operatorBytes p ++ z) z (there z) (bare-leaves Stem k) (stems p z (c z) k l)
+        unfolding spelled
+        stem-again k l fuel z = led (bare p) fuel (operatorBytes p ++ z) z (there z) (stems p z (c z) k l)
 
         clear-again : rules .kind p ≡ Clear → OneAgain f (bare p)
-        unfolding spelled byKind
-        clear-again k fuel z =
-            led (bare p) (cleared (leftBy rules f)) fuel (operatorBytes p ++ z) z (there z) (bare-leaves Clear k) (clears p z (c z) k)
+        unfolding spelled
+        clear-again k fuel z = led (bare p) fuel (operatorBytes p ++ z) z (there z) (clears p z (c z) k)
 
         mask-again : (m : List ℕ) → rules .kind p ≡ Mask → leftOver rules (leftBy rules f) ≡ false
             → atMask (leftBy rules f) .hints ≤ rules .hints → length m ≡ atMask (leftBy rules f) .mask → OneAgain f (masked p m)
-        unfolding spelled leaves
+        unfolding spelled
         mask-again m k w l n fuel z =
             let bytes = operatorBytes p ++ (m ++ z) in
             let x = atMask (leftBy rules f) in
             let fits : x .mask ≤ length (m ++ z) = omega (arith, length-append m z) in
             ap (λ (b : List ℕ). runs (suc fuel) b (stateOf f)) (append-assoc (operatorBytes p) m z)
-            ∙ led (masked p m) x fuel bytes z (there (m ++ z)) refl
-            (subst (λ (y : List ℕ). Leads f bytes (go y (shows (masked p m) x (stateOf f)))) (drop-at m z (x .mask) n)
-            (subst (λ (y : List ℕ). Leads f bytes (go (drop (x .mask) (m ++ z)) (shows (masked p y) x (stateOf f)))) (take-at m z (x .mask) n)
+            ∙ led (masked p m) fuel bytes z (there (m ++ z))
+            (subst (λ (y : List ℕ). Leads f bytes (go y (shows rules (masked p m) (stateOf f)))) (drop-at m z (x .mask) n)
+            (subst (λ (y : List ℕ). Leads f bytes (go (drop (x .mask) (m ++ z)) (shows rules (masked p y) (stateOf f)))) (take-at m z (x .mask) n)
             (masks p (m ++ z) (c (m ++ z)) k w l fits)))
 
     abbrev AllAgain : List Item → Type 0
@@ -281,19 +273,20 @@ module _ (rules : Rules) where
     end-again : (f : List Item) (p : Operator) → Cuttable p → rules .kind p ≡ End
         → length (leftBy rules f .operands) < 4 → length f < budget → (fuel : ℕ)
         → runs (suc fuel) (operatorBytes p ++ []) (stateOf f)
-        ≡ record { how = ended; state = record { left = leftBy rules f; shown = item (bare p) ∷ shownOf f; within = [] } }
-    unfolding after
+        ≡ record { how = ended; state = stateOf (bare p ∷ f) }
+    unfolding after leftBy shownOf
     end-again f p c k l h fuel =
         follows f h fuel (operatorBytes p ++ []) (there f h p c []) _ (ends p [] (c []) k l)
 
--- What a run that read just the items f gives: it ends so, and has shown them and nothing else.
-pub record Just (e : Ending) (f : List Item) (r : Run) : Type 0 where
+-- What a run that read just the items f gives: it ends so, has shown them and nothing else, and leaves what they leave.
+pub record Just (rules : Rules) (e : Ending) (f : List Item) (r : Run) : Type 0 where
   pub how : r .how ≡ e
   pub shown : r .state .shown ≡ shownOf f
+  pub left : r .state .left ≡ leftBy rules f
 
 module _ (rules : Rules) (lists : Lists) (budget levels : ℕ) (below : List ℕ → State → Run) where
   whole-again : (e : Ending) (f : List Item) → Whole rules e f → length f ≤ budget → (size : ℕ)
-      → Just e f (tokensOf rules lists budget levels below size (length (flat f)) (flat f) start)
+      → Just rules e f (tokensOf rules lists budget levels below size (length (flat f)) (flat f) start)
   unfolding flat shownOf spelled
   whole-again e f (open-ended g v) h size =
       let more = length (flat f) - length f in
@@ -302,7 +295,7 @@ module _ (rules : Rules) (lists : Lists) (budget levels : ℕ) (below : List ℕ
       ∙ ap (λ (b : List ℕ). tokensOf rules lists budget levels below size (more + length f) b start) (sym (append-nil (flat f)))
       ∙ valid-again rules lists budget levels below size f v h more []
       ∙ ran-out rules lists budget levels below size more (stateOf rules f) in
-      subst (Just back f) (sym same) (record { how = refl; shown = refl })
+      subst (Just rules back f) (sym same) (record { how = refl; shown = refl; left = refl })
   whole-again e f (end-behind p g c k l v) h size =
       let bytes = flat g ++ operatorBytes p in
       let w = item-some rules g (bare p) (valid-fewer rules g v) (operator-some p) in
@@ -312,14 +305,14 @@ module _ (rules : Rules) (lists : Lists) (budget levels : ℕ) (below : List ℕ
       ∙ ap (λ (b : List ℕ). tokensOf rules lists budget levels below size (suc more + length g) (flat g ++ b) start) (sym (append-nil (operatorBytes p)))
       ∙ valid-again rules lists budget levels below size g v (omega arith) (suc more) (operatorBytes p ++ [])
       ∙ end-again rules lists budget levels below size g p c k l h more in
-      subst (Just ended (bare p ∷ g)) (sym same) (record { how = refl; shown = refl })
+      subst (Just rules ended (bare p ∷ g)) (sym same) (record { how = refl; shown = refl; left = refl })
 
 -- the bytes of the items, read as a charstring with any lists
 pub read-again : (rules : Rules) (lists : Lists) (budget : ℕ) (e : Ending) (f : List Item) → Whole rules e f
-    → length f ≤ budget → Just e f (reading rules lists budget (flat f))
+    → length f ≤ budget → Just rules e f (reading rules lists budget (flat f))
 unfolding reading read
 read-again rules lists budget e f w h = go (rules .levels)
   where
-    go : (levels : ℕ) → Just e f (read rules lists budget levels (flat f) start)
+    go : (levels : ℕ) → Just rules e f (read rules lists budget levels (flat f) start)
     go zero = whole-again rules lists budget zero _ e f w h (length (flat f))
     go (suc levels) = whole-again rules lists budget (suc levels) _ e f w h (length (flat f))

@@ -7,14 +7,15 @@ use Prim.Native.Nat.{ℕ, zero, suc, _-_, _≤_}
 use native.Mathlib.Nat.{le-refl}
 use native.Mathlib.Omega.{arith}
 use lib.Dec.{lit≤}
-use lib.ListN.{length}
+use lib.ListN.{length, take, drop}
 use Rattle.number.specs.Answer.{accepted}
 use Rattle.number.specs.Call.{callee}
 use Rattle.number.specs.CallLaws.{exact-callee}
 use Rattle.number.specs.declared.Operand.{Operand}
 use Rattle.reading.specs.Rules.{Rules, plain, strict}
 use Rattle.reading.specs.Lists.{Lists}
-use Rattle.reading.specs.Reading.{State, start, Ending, back, ended, stopped, Run, Step, halt, go}
+use Rattle.reading.specs.Items.{Item, operand, bare, masked, Left, atMask, settling, byKind, leaves}
+use Rattle.reading.specs.Reading.{item, State, start, shows, Ending, back, ended, stopped, Run, Step, halt, go}
 use Rattle.reading.specs.Reading.{enter, onToken, resume, after, tokensOf, read, reading, Accepted}
 use Rattle.reading.specs.StepLaws.{
   declines,
@@ -35,6 +36,8 @@ use Rattle.reading.specs.StepLaws.{
 }
 use Rattle.reading.specs.BudgetLaws.{never-accepted, Entered}
 use Rattle.reading.specs.declared.Operator.{Operator}
+use Rattle.reading.specs.declared.Kind.{Kind}
+use Rattle.reading.specs.declared.Takes.{Takes}
 
 pub record Tighter (a b : Rules) : Type 0 where
   pub operands : a .operands ≤ b .operands
@@ -45,6 +48,7 @@ pub record Tighter (a b : Rules) : Type 0 where
   pub finished : b .finished ≡ true → a .finished ≡ true
   pub width : a .width ≡ b .width
   pub kind : (p : Operator) → a .kind p ≡ b .kind p
+  pub takes : (p : Operator) → a .takes p ≡ b .takes p
 
 -- strict and plain differ in nothing else
 pub strict-tighter : Tighter strict plain
@@ -58,6 +62,7 @@ strict-tighter =
       finished = λ e. refl;
       width = refl;
       kind = λ p. refl;
+      takes = λ p. refl;
     }
 
 loose-callee : (t u : Bool) → (u ≡ true → t ≡ true) → (n : ℕ) (o : Operand) (k : ℕ)
@@ -77,19 +82,35 @@ loose-over false false x h e = refl
 abbrev Follows : (List ℕ → State → Run) → (List ℕ → State → Run) → Type 0
 Follows f f′ = (bytes : List ℕ) (s : State) → Accepted (f bytes s .how) → f′ bytes s ≡ f bytes s
 
+-- items leave the same
+module _ (a b : Rules) (t : Tighter a b) where
+  leaves-same : (i : Item) (x : Left) → leaves b i x ≡ leaves a i x
+  unfolding leaves
+  leaves-same (operand o) x = refl
+  leaves-same (bare p) x = ap (λ (k : Kind). byKind (b .takes p) k x) (sym (t .kind p)) ∙ ap (λ (n : Takes). byKind n (a .kind p) x) (sym (t .takes p))
+  leaves-same (masked p m) x = ap (λ (n : Takes). settling n x (atMask x)) (sym (t .takes p))
+
+  shows-same : (i : Item) (s : State) → shows b i s ≡ shows a i s
+  shows-same i s = ap (λ (x : Left). record { left = x; shown = item i ∷ s .shown; within = s .within }) (leaves-same i (s .left))
+
 module _ (a b : Rules) (t : Tighter a b) (lists : Lists) (budget : ℕ) where
   module _ (levels levels′ at : ℕ) (deep : levels ≤ levels′) (bytes : List ℕ) (s : State) where
     -- what the tighter rules take, the others take
+    on-with : (i : Item) (rest : List ℕ) → Goes b lists levels′ at bytes s (go rest (shows b i s)) → Goes b lists levels′ at bytes s (go rest (shows a i s))
+    on-with i rest g = subst (λ (y : State). Goes b lists levels′ at bytes s (go rest y)) (shows-same a b t i s) g
+
     taken : (x : Step) → Goes a lists levels at bytes s x → Goes b lists levels′ at bytes s x
-    taken x (pushes o rest q l) = pushes o rest q (let h = t .operands in omega arith)
-    taken x (stems p rest q k l) = stems p rest q (sym (t .kind p) ∙ k) (let h = t .hints in omega arith)
-    taken x (clears p rest q k) = clears p rest q (sym (t .kind p) ∙ k)
+    taken x (pushes o rest q l) = on-with (operand o) rest (pushes o rest q (let h = t .operands in omega arith))
+    taken x (stems p rest q k l) = on-with (bare p) rest (stems p rest q (sym (t .kind p) ∙ k) (let h = t .hints in omega arith))
+    taken x (clears p rest q k) = on-with (bare p) rest (clears p rest q (sym (t .kind p) ∙ k))
     taken x (masks p rest q k w l m) =
-        masks p rest q (sym (t .kind p) ∙ k) (loose-over (a .clean) (b .clean) _ (t .clean) w) (let h = t .hints in omega arith) m
+        on-with (masked p (take (atMask (s .left) .mask) rest)) (drop (atMask (s .left) .mask) rest)
+        (masks p rest q (sym (t .kind p) ∙ k) (loose-over (a .clean) (b .clean) _ (t .clean) w) (let h = t .hints in omega arith) m)
     taken x (enters p rest c ops body q k w o e f l u) =
         enters p rest c ops body q (sym (t .kind p) ∙ k) w o (loose-callee (a .exact) (b .exact) (t .exact) _ _ _ e) f (λ z. l (omega arith)) u
     taken x (returns p rest q k) = returns p rest q (sym (t .kind p) ∙ k)
-    taken x (ends p rest q k l) = ends p rest q (sym (t .kind p) ∙ k) l
+    taken x (ends p rest q k l) =
+        subst (λ (y : State). Goes b lists levels′ at bytes s (halt ended y)) (shows-same a b t (bare p) s) (ends p rest q (sym (t .kind p) ∙ k) l)
 
     entered : (x : Step) → Goes a lists levels at bytes s x → Entered levels x
     entered x (pushes o rest q l) = tt

@@ -57,6 +57,7 @@ pub record Good (rules : Rules) (s : State) : Type 0 where
   pub taken : Taken (s .shown)
 
 pub record Ended (rules : Rules) (s : State) : Type 0 where
+  pub agree : leftBy rules (struck (s .shown)) ≡ s .left
   pub whole : Whole rules ended (struck (s .shown))
   pub taken : Taken (s .shown)
 

@@ -13,7 +13,7 @@ use Rattle.reading.specs.Rules.{Rules}
 use Rattle.reading.specs.Lists.{Lists}
 use Rattle.reading.specs.Tokens.{number, operator, token, cut, Bytes}
 use Rattle.reading.specs.CutLaws.{cut-off, bytes-drop}
-use Rattle.reading.specs.Items.{Item, operand, bare, masked, Left, pushed, popped, cleared, counted, atMask, leftOver, byKind, leaves, leftBy}
+use Rattle.reading.specs.Items.{Item, operand, bare, masked, Left, popped, counted, atMask, leftOver, leaves, leftBy}
 use Rattle.reading.specs.Reading.{Entering, call, return, struck, State, shows}
 use Rattle.reading.specs.Reading.{start, Ending, back, ended, stopped, Step, endsInOperand, reading}
 use Rattle.reading.specs.Valid.{Cuttable, Valid, none, number-behind, stem-behind, clear-behind, mask-behind, end-behind}
@@ -26,49 +26,41 @@ use Rattle.reading.specs.declared.Kind.the-variants.{Stem, Clear, Mask, 
 
 -- an item is shown
 module _ (rules : Rules) (s : State) (g : Good rules s) where
-  shown-good : (i : Item) (x : Left) → leaves rules i (s .left) ≡ x → Valid rules (i ∷ struck (s .shown))
-      → Good rules (shows i x s)
+  shown-good : (i : Item) → Valid rules (i ∷ struck (s .shown)) → Good rules (shows rules i s)
   unfolding struck leftBy
-  shown-good i x e v = record { agree = ap (leaves rules i) (g .agree) ∙ e; valid = v; taken = g .taken }
-
-  leaves-bare : (p : Operator) (k : Kind) → rules .kind p ≡ k → leaves rules (bare p) (s .left) ≡ byKind k (s .left)
-  unfolding leaves
-  leaves-bare p k e = ap (λ (y : Kind). byKind y (s .left)) e
+  shown-good i v = record { agree = ap (leaves rules i) (g .agree); valid = v; taken = g .taken }
 
   module _ (o : Operand) where
     number-good : Spellable false o → length (s .left .operands) < rules .operands
-        → Good rules (shows (operand o) (pushed o (s .left)) s)
-    unfolding leaves
+        → Good rules (shows rules (operand o) s)
     number-good p l =
-        shown-good (operand o) (pushed o (s .left)) refl
+        shown-good (operand o)
         (number-behind o (struck (s .shown)) p (subst (λ (x : Left). length (x .operands) < rules .operands) (sym (g .agree)) l) (g .valid))
 
   module _ (p : Operator) (c : Cuttable p) where
     stem-good : rules .kind p ≡ Stem → counted (s .left) .hints ≤ rules .hints
-        → Good rules (shows (bare p) (counted (s .left)) s)
-    unfolding byKind
+        → Good rules (shows rules (bare p) s)
     stem-good k l =
-        shown-good (bare p) (counted (s .left)) (leaves-bare p Stem k)
+        shown-good (bare p)
         (stem-behind p (struck (s .shown)) c k (subst (λ (x : Left). counted x .hints ≤ rules .hints) (sym (g .agree)) l) (g .valid))
 
-    clear-good : rules .kind p ≡ Clear → Good rules (shows (bare p) (cleared (s .left)) s)
-    unfolding byKind
-    clear-good k = shown-good (bare p) (cleared (s .left)) (leaves-bare p Clear k) (clear-behind p (struck (s .shown)) c k (g .valid))
+    clear-good : rules .kind p ≡ Clear → Good rules (shows rules (bare p) s)
+    clear-good k = shown-good (bare p) (clear-behind p (struck (s .shown)) c k (g .valid))
 
     mask-good : (m : List ℕ) → rules .kind p ≡ Mask → leftOver rules (s .left) ≡ false → atMask (s .left) .hints ≤ rules .hints
-        → length m ≡ atMask (s .left) .mask → Good rules (shows (masked p m) (atMask (s .left)) s)
-    unfolding leaves
+        → length m ≡ atMask (s .left) .mask → Good rules (shows rules (masked p m) s)
     mask-good m k w l n =
-        shown-good (masked p m) (atMask (s .left)) refl
+        shown-good (masked p m)
         (mask-behind p m (struck (s .shown)) c k (subst (λ (x : Left). leftOver rules x ≡ false) (sym (g .agree)) w)
         (subst (λ (x : Left). atMask x .hints ≤ rules .hints) (sym (g .agree)) l)
         (subst (λ (x : Left). length m ≡ atMask x .mask) (sym (g .agree)) n) (g .valid))
 
     end-good : rules .kind p ≡ End → length (s .left .operands) < 4
-        → Ended rules (shows (bare p) (s .left) s)
-    unfolding struck
+        → Ended rules (shows rules (bare p) s)
+    unfolding struck leftBy
     end-good k l =
         record {
+          agree = ap (leaves rules (bare p)) (g .agree);
           whole = end-behind p (struck (s .shown)) c k (subst (λ (x : Left). length (x .operands) < 4) (sym (g .agree)) l) (g .valid);
           taken = g .taken;
         }

@@ -2,6 +2,7 @@
 // a profile is, and what flattening answers. The reading itself is a definition, in specs/.
 use index::Flaw;
 use index::Width;
+use number::Operand;
 ghost use mathlib.Core.Path.{_≡_};
 ghost use Rattle.number.specs.Answer.{numberIn};
 ghost use Rattle.reading.specs.Rules.{meant, rulesOf};
@@ -33,6 +34,24 @@ pub enum Kind {
     End,
     // Is no operator that we take.
     Unknown,
+}
+
+// How many of the operands that wait an operator takes itself. At the first one that clears the
+// stack one more may stand below them, the advance width.
+pub enum Takes {
+    Pairs,
+    // So many, or fewer.
+    UpTo(usize),
+    // Whatever there is.
+    All,
+}
+
+// The advance width that a charstring says.
+pub enum Advance {
+    // None: its font's default holds.
+    Default,
+    // What is added to its font's nominal width.
+    Given(Operand),
 }
 
 // The rules to run by.
@@ -147,8 +166,8 @@ impl Stopped {
 
 // What flattening answers.
 pub enum Flattened {
-    // Accepted: the length of the flat string, and the tokens.
-    Accepted(usize, u32),
+    // Accepted: the length of the flat string, the tokens and the advance width.
+    Accepted(usize, u32, Advance),
     // The global list is not well formed, and why.
     BadGlobals(Flaw),
     // The local list is not well formed, and why.
@@ -165,7 +184,7 @@ impl Flattened {
         ensures { λ r. ⌜ r ≡ numberIn (flattened self) ⌝ }
     {
         match self {
-            Flattened::Accepted(_, _) => 0,
+            Flattened::Accepted(_, _, _) => 0,
             Flattened::BadGlobals(_) => 1,
             Flattened::BadLocals(_) => 2,
             Flattened::Refused(why) => why.number(),

@@ -23,7 +23,7 @@ Refusals = 1 ∷ 2 ∷ 3 ∷ 4 ∷ []
 -- a run that was refused changes nothing
 refused-so : (rules : Rules) (out : List ℕ) (x : Run) (r : Flattened) → OneOf Refusals (tagOf flattened-type.the-type r)
     → flattened r ≡ verdict rules x → leaving (flattened r) out ≡ outcome rules out x
-refused-so rules out x (Accepted n t) k e = absurd (miss Refusals 0 tt k)
+refused-so rules out x (Accepted n t w) k e = absurd (miss Refusals 0 tt k)
 refused-so rules out x (BadGlobals f) k e = by-refusal rules out x _ _ e
 refused-so rules out x (BadLocals f) k e = by-refusal rules out x _ _ e
 refused-so rules out x (Refused w) k e = by-refusal rules out x _ _ e
@@ -33,7 +33,7 @@ refused-so rules out x (NoRoom n t) k e = by-refusal rules out x _ _ e
 accepted : (c : tie.After-verdict)
     → let draft = c .before .before .before in
     let args = draft .before .before .before .before .before .before .args in
-    flattened (Accepted (c .verdict .given .0 .0) (c .verdict .given .0 .1 .0))
+    flattened (Accepted (c .verdict .given .0 .0) (c .verdict .given .0 .1 .0) (c .verdict .given .0 .1 .1 .0))
     ≡ verdict (rulesOf (args .profile)) (original (rulesOf (args .profile)) (args .cs .now) (args .globals .now) (args .locals .now) (args .budget))
 accepted c = ap flattened (sym (c .verdict .given .1)) ∙ c .before .before .before .draft .ensures .0
 
@@ -50,7 +50,7 @@ returns : tie.Need-returns
 returns c = refused-so _ _ _ (c .before .before .draft .result) (c .match .keys2) (c .before .before .draft .ensures .0)
 
 returns-2 : tie.Need-returns-2
-returns-2 c = by-short _ _ _ _ _ (accepted (c .before .before)) (c .if1 .taken)
+returns-2 c = by-short _ _ _ _ _ _ (accepted (c .before .before)) (c .if1 .taken)
 
 slice-aggregate-keep : tie.Need-slice-aggregate-keep
 slice-aggregate-keep c = search needs
@@ -74,7 +74,7 @@ returns-3 : tie.Need-returns-3
 returns-3 c =
     let at-if = c .before .before .before .before .before .before in
     let at-verdict = at-if .before .before in
-    by-held _ _ _ _ _ (accepted at-verdict) (at-if .if1 .left) _ (at-verdict .before .before .before .draft .ensures .1) (omega arith) _
+    by-held _ _ _ _ _ _ (accepted at-verdict) (at-if .if1 .left) _ (at-verdict .before .before .before .draft .ensures .1) (omega arith) _
     (c .before .before .keep .ensures)
 
 same-length-2 : tie.Need-same-length-2
@@ -84,7 +84,7 @@ returns-4 : tie.Need-returns-4
 returns-4 c =
     let at-if = c .before .before .before .before .before in
     let again = c .before .before .draft2 in
-    by-part _ _ _ _ _ (accepted (at-if .before .before)) (at-if .if1 .left) _ (again .ensures .1) (again .kept .1 .1 .1 .1 .1 .0)
+    by-part _ _ _ _ _ _ (accepted (at-if .before .before)) (at-if .if1 .left) _ (again .ensures .1) (again .kept .1 .1 .1 .1 .1 .0)
 
 pub write-spec : {M : Type 1} → statement M
 write-spec =

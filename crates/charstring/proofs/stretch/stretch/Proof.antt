@@ -115,18 +115,22 @@ enum-known-next-2 c = search needs
 put-operator-requires : tie.Need-put-operator-requires Inv-loop μ-loop
 put-operator-requires c κs = let a = clears (c .before .before) in omega (arith, a .numbers, a .looked .0 .begun)
 
+advance-at-requires : tie.Need-advance-at-requires Inv-loop μ-loop
+advance-at-requires c κs = clears (c .before .before .before .before .before .before) .numbers .room
+
 clear-requires : tie.Need-clear-requires Inv-loop μ-loop
 clear-requires c κs =
-    let at-arm = c .before .before .before .before .before in
+    let at-arm = c .before .before .before .before .before .before .before in
     few-tokens _ _ (clears at-arm .looked .0 .begun .within) (small-budget (at-arm .before .before .before))
 
 loop-less-2 : tie.Need-loop-less-2 Inv-loop μ-loop
 loop-less-2 c =
-    let a = clears (c .before .before .before .before .before .before) in omega (arith, a .looked .0 .begun)
+    let a = clears (c .before .before .before .before .before .before .before .before) in omega (arith, a .looked .0 .begun)
 
 loop-again-2 : tie.Need-loop-again-2 Inv-loop μ-loop
 loop-again-2 c =
-    let at-put = c .before .before .before in
+    let at-settled = c .before in
+    let at-put = at-settled .before .before .before .before in
     let at-arm = at-put .before .before .before in
     let at-loop = at-arm .before .before .before in
     let a = clears at-arm in
@@ -134,7 +138,7 @@ loop-again-2 c =
       at-loop .loop .inv .0,
       p .kept .0 ∙ at-loop .loop .inv .1,
       omega (arith, a .turn .further, a .looked .0 .begun),
-      arm-clear _ _ _ _ _ _ _ _ _ _ (a .turn) _ _ _ _ _ _ (a .looked) (p .ensures .1) (p .ensures .0) (c .clear .ensures),
+      arm-clear _ _ _ _ _ _ _ _ _ _ (a .turn) _ _ _ _ _ _ _ (a .looked) (at-settled .advance-at .ensures) (p .ensures .1) (p .ensures .0) (c .clear .ensures),
     )
 
 -- ---- any other number
@@ -214,22 +218,26 @@ put-bytes-requires c κs =
     let few = small-budget (at-arm .before .before .before) in
     omega (arith, a .numbers, a .looked .0 .begun, few, at-put .put-operator2 .ensures .0, operator-two (at-arm .a .given .0 .1 .1 .1 .1 .0))
 
+advance-at-requires-2 : tie.Need-advance-at-requires-2 Inv-loop μ-loop
+advance-at-requires-2 c κs = masks (c .before .before .before .before .before .before .before .before .before .before .before) .numbers .room
+
 sub-mask : tie.Need-sub-mask Inv-loop μ-loop
-sub-mask c = masks (c .before .before .before .before .before .before .before .before .before .before) .looked .3
+sub-mask c = masks (c .before .before .before .before .before .before .before .before .before .before .before .before) .looked .3
 
 mask-requires : tie.Need-mask-requires Inv-loop μ-loop
 mask-requires c κs =
-    let at-arm = c .before .before .before .before .before .before .before .before .before .before in
+    let at-arm = c .before .before .before .before .before .before .before .before .before .before .before .before in
     few-tokens _ _ (masks at-arm .looked .0 .begun .within) (small-budget (at-arm .before .before .before))
 
 loop-less-4 : tie.Need-loop-less-4 Inv-loop μ-loop
 loop-less-4 c =
-    let a = masks (c .before .before .before .before .before .before .before .before .before .before .before) in
+    let a = masks (c .before .before .before .before .before .before .before .before .before .before .before .before .before) in
     omega (arith, a .looked .0 .begun, a .looked .3, a .looked .4)
 
 loop-again-4 : tie.Need-loop-again-4 Inv-loop μ-loop
 loop-again-4 c =
-    let at-bytes = c .before .before .before in
+    let at-settled = c .before in
+    let at-bytes = at-settled .before .before .before .before in
     let at-put = at-bytes .before .before .before .before .before in
     let at-arm = at-put .before .before .before in
     let at-loop = at-arm .before .before .before in
@@ -239,7 +247,7 @@ loop-again-4 c =
       at-loop .loop .inv .0,
       m .kept .0 ∙ p .kept .0 ∙ at-loop .loop .inv .1,
       omega (arith, a .turn .further, a .looked .0 .begun, a .looked .3),
-      arm-mask _ _ _ _ _ _ _ _ _ _ (a .turn) _ _ _ _ _ _ _ _ _ _ (a .looked) (p .ensures .1)
+      arm-mask _ _ _ _ _ _ _ _ _ _ (a .turn) _ _ _ _ _ _ _ _ _ _ _ (a .looked) (at-settled .advance-at2 .ensures) (p .ensures .1)
           (p .ensures .0) (m .ensures .1) (m .ensures .0) (c .mask .ensures),
     )
 
@@ -288,28 +296,32 @@ enum-known-p c = search needs
 put-operator-requires-3 : tie.Need-put-operator-requires-3 Inv-loop μ-loop
 put-operator-requires-3 c κs = let a = ends (c .before .before) in omega (arith, a .numbers, a .looked .1 .begun)
 
+advance-at-requires-3 : tie.Need-advance-at-requires-3 Inv-loop μ-loop
+advance-at-requires-3 c κs = ends (c .before .before .before .before .before .before) .numbers .room
+
 finish-requires : tie.Need-finish-requires Inv-loop μ-loop
 finish-requires c κs =
-    let at-arm = c .before .before .before .before .before in
+    let at-arm = c .before .before .before .before .before .before .before in
     few-tokens _ _ (ends at-arm .looked .1 .begun .within) (small-budget (at-arm .before .before .before))
 
 ended-requires-2 : tie.Need-ended-requires-2 Inv-loop μ-loop
 ended-requires-2 c κs = tt
 
 same-length-5 : tie.Need-same-length-5 Inv-loop μ-loop
-same-length-5 c = c .before .before .before .before .before .before .before .before .before .before .loop .inv .0
+same-length-5 c = c .before .before .before .before .before .before .before .before .before .before .before .before .loop .inv .0
 
 same-length-6 : tie.Need-same-length-6 Inv-loop μ-loop
 same-length-6 c =
-    let at-put = c .before .before .before .before in
+    let at-put = c .before .before .before .before .before .before in
     at-put .put-operator3 .kept .0 ∙ at-put .before .before .before .before .before .before .loop .inv .1
 
 returns-3 : tie.Need-returns-3 Inv-loop μ-loop
 returns-3 c =
-    let p = c .before .before .before .before .put-operator3 in
-    let a = ends (c .before .before .before .before .before .before .before) in
+    let at-settled = c .before .before in
+    let p = at-settled .before .before .before .before .put-operator3 in
+    let a = ends (at-settled .before .before .before .before .before .before .before) in
     let is = c .ended2 .ensures ∙ ap (λ (y : State). record { st = y; stop = Finished Ended }) (c .before .finish .ensures) in
-    arm-end _ _ _ _ _ _ _ _ _ _ (a .turn) _ _ _ _ is (a .looked) (p .ensures .1) (p .ensures .0)
+    arm-end _ _ _ _ _ _ _ _ _ _ (a .turn) _ _ _ _ _ is (a .looked) (at-settled .advance-at3 .ensures) (p .ensures .1) (p .ensures .0)
 
 enum-told-2 : tie.Need-enum-told-2 Inv-loop μ-loop
 enum-told-2 c = search needs
@@ -364,6 +376,7 @@ stretch-spec =
     loop-again
     enum-known-next-2
     put-operator-requires
+    advance-at-requires
     clear-requires
     loop-less-2
     loop-again-2
@@ -381,6 +394,7 @@ stretch-spec =
     part-put-bytes-start
     part-put-bytes-end
     put-bytes-requires
+    advance-at-requires-2
     sub-mask
     mask-requires
     loop-less-4
@@ -397,6 +411,7 @@ stretch-spec =
     returns-2
     enum-known-p
     put-operator-requires-3
+    advance-at-requires-3
     finish-requires
     ended-requires-2
     same-length-5

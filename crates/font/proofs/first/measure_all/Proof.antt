@@ -74,7 +74,7 @@ module _ (c : tie.After-known-told Inv-loop μ-loop) where
   at-draft = c .before .before .before .before .before
 
   flat : Flat (rules at-draft) (run at-draft) (c .before .verdict .given .0 .0)
-  flat = verdict-flat (rules at-draft) (run at-draft) _ _ (ap flattened (sym (c .before .verdict .given .1)) ∙ drafted at-draft .0)
+  flat = verdict-flat (rules at-draft) (run at-draft) _ (ap flattened (sym (c .before .verdict .given .1)) ∙ drafted at-draft .0)
 
   bound : c .before .verdict .given .0 .0 ≤ 35205846917115
   bound =

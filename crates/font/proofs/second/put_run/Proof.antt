@@ -28,7 +28,7 @@ told : (c : tie.After-known-told)
     Flat (rules at-draft) (run at-draft) (c .before .n .given .0 .0)
 told c =
     let at-draft = c .before .before .before .before .before in
-    verdict-flat (rules at-draft) (run at-draft) _ _ (ap flattened (sym (c .before .n .given .1)) ∙ at-draft .draft .ensures .0)
+    verdict-flat (rules at-draft) (run at-draft) _ (ap flattened (sym (c .before .n .given .1)) ∙ at-draft .draft .ensures .0)
 
 sub-draft : tie.Need-sub-draft
 sub-draft c = search needs

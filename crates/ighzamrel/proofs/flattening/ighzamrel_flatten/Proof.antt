@@ -1,12 +1,13 @@
 -- `ighzamrel_flatten` tells what `flatten` answers, and leaves what it leaves. Assumes nothing.
 use Rattle.ighzamrel.specs.Told.{FlatPlaces, profileOf, tell}
-use Rattle.ighzamrel.specs.ToldLaws.{tell-left, stop-told, stop-alone, flaw-told}
+use Rattle.ighzamrel.specs.ToldLaws.{tell-left, stop-told, stop-alone, two-told}
 use Rattle.number.specs.Answer.{Answer, tokensOr, entryOr, Outcome, leaving}
 use Rattle.reading.specs.Answers.{Flattening, flattened, flattening}
 use Rattle.reading.specs.Rules.{rulesOf}
 use Rattle.reading.specs.declared.Profile.{Profile}
 use mathlib.Core.Path.{_≡_, ap, _∙_}
 use Prim.Native.Nat.{ℕ}
+use lib.IntN.{ℤ}
 use borrow.Author.Needs.{needs}
 use Rattle.ighzamrel.proofs.flattening.ighzamrel_flatten.Statement.{statement}
 use Rattle.ighzamrel.proofs.flattening.ighzamrel_flatten.Tie as tie
@@ -23,18 +24,27 @@ asked : (c : tie.After-flatten)
     → leaving (flattened (c .flatten .result)) (c .flatten .last .1 .1 .1 .1 .1 .0) ≡ asks c (profileOf (start c .args .profile))
 asked c = c .flatten .ensures ∙ ap (asks c) (c .before .before .profile-of .ensures)
 
--- the places as lent
+-- the places as lent, but for the tokens, an entry and a reason
+abbrev places : tie.Start → ℕ → ℕ → ℕ → FlatPlaces
+places c t i k =
+    let a = c .args in
+    record { length = a .length .now; tokens = t; entry = i; reason = k; widthKind = a .width-kind .now; width = a .width .now }
+
 abbrev before : tie.Start → FlatPlaces
-before c =
-    let a = c .args in record { length = a .length .now; tokens = a .tokens .now; entry = a .entry .now; reason = a .reason .now }
+before c = places c (c .args .tokens .now) (c .args .entry .now) (c .args .reason .now)
 
--- and with an entry and a reason
+-- with an entry and a reason
 abbrev with : tie.Start → ℕ → ℕ → FlatPlaces
-with c i k = let a = c .args in record { length = a .length .now; tokens = a .tokens .now; entry = i; reason = k }
+with c i k = places c (c .args .tokens .now) i k
 
--- and with the tokens
+-- with the tokens
 abbrev ran : tie.Start → ℕ → FlatPlaces
-ran c t = let a = c .args in record { length = a .length .now; tokens = t; entry = a .entry .now; reason = a .reason .now }
+ran c t = places c t (c .args .entry .now) (c .args .reason .now)
+
+-- with a length, the tokens and an advance width
+abbrev given : tie.Start → ℕ → ℕ → ℕ → ℤ → FlatPlaces
+given c n t k v =
+    let a = c .args in record { length = n; tokens = t; entry = a .entry .now; reason = a .reason .now; widthKind = k; width = v }
 
 profile-of-requires : tie.Need-profile-of-requires
 profile-of-requires c κs = search needs
@@ -44,6 +54,9 @@ flatten-requires c κs = search needs
 
 enum-known-flattened : tie.Need-enum-known-flattened
 enum-known-flattened c = search needs
+
+tell-advance-requires : tie.Need-tell-advance-requires
+tell-advance-requires c κs = search needs
 
 number-requires : tie.Need-number-requires
 number-requires c κs = search needs
@@ -87,7 +100,12 @@ same-length c = search needs
 returns : tie.Need-returns
 unfolding tell
 returns c =
-    tell-left _ _ flattened _ (c .before .before .flattened .given .1) _ (c .number .ensures) (asked (c .before .before .before .before .before .before))
+    let at-tell = c .before in
+    let at-flattened = at-tell .before .before .before .before in
+    let at-flatten = at-flattened .before .before .before .before in
+    let n = at-flattened .flattened .given .0 in
+    two-told _ _ (given (start at-flatten) (n .0) (n .1 .0)) (at-tell .tell-advance .ensures .0) (at-tell .tell-advance .ensures .1)
+    ∙ tell-left _ _ flattened _ (at-flattened .flattened .given .1) _ (c .number .ensures) (asked at-flatten)
 
 same-length-2 : tie.Need-same-length-2
 same-length-2 c = search needs
@@ -98,8 +116,7 @@ returns-2 c =
     let at-tell = c .before in
     let at-flattened = at-tell .before .before .before .before in
     let at-flatten = at-flattened .before .before .before .before in
-    let flaw = at-flattened .flattened2 .given .0 .0 in
-    flaw-told _ _ (with (start at-flatten)) (before (start at-flatten) .entry) flaw (at-tell .tell-flaw .ensures .0) (at-tell .tell-flaw .ensures .1)
+    two-told _ _ (with (start at-flatten)) (at-tell .tell-flaw .ensures .0) (at-tell .tell-flaw .ensures .1)
     ∙ tell-left _ _ flattened _ (at-flattened .flattened2 .given .1) _ (c .number2 .ensures) (asked at-flatten)
 
 same-length-3 : tie.Need-same-length-3
@@ -111,8 +128,7 @@ returns-3 c =
     let at-tell = c .before in
     let at-flattened = at-tell .before .before .before .before in
     let at-flatten = at-flattened .before .before .before .before in
-    let flaw = at-flattened .flattened3 .given .0 .0 in
-    flaw-told _ _ (with (start at-flatten)) (before (start at-flatten) .entry) flaw (at-tell .tell-flaw2 .ensures .0) (at-tell .tell-flaw2 .ensures .1)
+    two-told _ _ (with (start at-flatten)) (at-tell .tell-flaw2 .ensures .0) (at-tell .tell-flaw2 .ensures .1)
     ∙ tell-left _ _ flattened _ (at-flattened .flattened3 .given .1) _ (c .number3 .ensures) (asked at-flatten)
 
 same-length-4 : tie.Need-same-length-4
@@ -145,6 +161,7 @@ ighzamrel-flatten-spec =
     profile-of-requires
     flatten-requires
     enum-known-flattened
+    tell-advance-requires
     number-requires
     enum-known-flattened-2
     tell-flaw-requires

@@ -1,6 +1,6 @@
 -- `ighzamrel_flatten_font` tells what `flatten_font` answers, and leaves what it leaves. Assumes nothing.
 use Rattle.ighzamrel.specs.Told.{FontPlaces, profileOf, tell}
-use Rattle.ighzamrel.specs.ToldLaws.{tell-left, stop-told, flaw-told, number-as}
+use Rattle.ighzamrel.specs.ToldLaws.{tell-left, stop-told, two-told, number-as}
 use Rattle.number.specs.Answer.{Answer, tokensOr, entryOr, Outcome, leaving}
 use Rattle.reading.specs.Rules.{rulesOf}
 use Rattle.reading.specs.declared.Profile.{Profile}
@@ -110,8 +110,7 @@ returns-2 c =
     let at-tell = c .before in
     let at-flattened = at-tell .before .before .before .before in
     let at-flatten = at-flattened .before .before .before .before in
-    let flaw = at-flattened .flattened2 .given .0 .0 in
-    flaw-told _ _ (with (start at-flatten)) (start at-flatten .args .entry .now) flaw (at-tell .tell-flaw .ensures .0) (at-tell .tell-flaw .ensures .1)
+    two-told _ _ (with (start at-flatten)) (at-tell .tell-flaw .ensures .0) (at-tell .tell-flaw .ensures .1)
     ∙ tell-left _ _ fontFlattened _ (at-flattened .flattened2 .given .1) _ (c .number2 .ensures) (asked at-flatten)
 
 same-length-3 : tie.Need-same-length-3
@@ -123,8 +122,7 @@ returns-3 c =
     let at-tell = c .before in
     let at-flattened = at-tell .before .before .before .before in
     let at-flatten = at-flattened .before .before .before .before in
-    let flaw = at-flattened .flattened3 .given .0 .0 in
-    flaw-told _ _ (with (start at-flatten)) (start at-flatten .args .entry .now) flaw (at-tell .tell-flaw2 .ensures .0) (at-tell .tell-flaw2 .ensures .1)
+    two-told _ _ (with (start at-flatten)) (at-tell .tell-flaw2 .ensures .0) (at-tell .tell-flaw2 .ensures .1)
     ∙ tell-left _ _ fontFlattened _ (at-flattened .flattened3 .given .1) _ (c .number3 .ensures) (asked at-flatten)
 
 same-length-4 : tie.Need-same-length-4
@@ -136,8 +134,7 @@ returns-4 c =
     let at-tell = c .before in
     let at-flattened = at-tell .before .before .before .before in
     let at-flatten = at-flattened .before .before .before .before in
-    let flaw = at-flattened .flattened4 .given .0 .0 in
-    flaw-told _ _ (with (start at-flatten)) (start at-flatten .args .entry .now) flaw (at-tell .tell-flaw3 .ensures .0) (at-tell .tell-flaw3 .ensures .1)
+    two-told _ _ (with (start at-flatten)) (at-tell .tell-flaw3 .ensures .0) (at-tell .tell-flaw3 .ensures .1)
     ∙ tell-left _ _ fontFlattened _ (at-flattened .flattened4 .given .1) _ (c .number4 .ensures) (asked at-flatten)
 
 same-length-5 : tie.Need-same-length-5

@@ -1,0 +1,20 @@
+use mathlib.Core.Path.{_∙_}
+use borrow.Author.Needs.{needs}
+use Rattle.reading.specs.Rules.{type2Takes}
+use Rattle.charstring.specs.AdvanceLaws.{first-settles}
+use Rattle.charstring.proofs.advance.advance_at.Statement.{statement}
+use Rattle.charstring.proofs.advance.advance_at.Tie as tie
+
+returns : tie.Need-returns
+returns c = search needs
+
+said-at-requires : tie.Need-said-at-requires
+said-at-requires c κs = search needs
+
+returns-2 : tie.Need-returns-2
+returns-2 c =
+    let args = c .before .before .before .args in
+    c .said-at .ensures ∙ first-settles (type2Takes (args .p)) (args .stack .now) (args .s) (search needs)
+
+pub advance-at-spec : {M : Type 1} → statement M
+advance-at-spec = tie.close (tie.spec returns said-at-requires returns-2)
