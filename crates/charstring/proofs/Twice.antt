@@ -13,7 +13,7 @@ use Rattle.reading.specs.Rules.{Rules, rulesOf}
 use Rattle.reading.specs.Tokens.{Bytes}
 use Rattle.reading.specs.Flat.{straight}
 use Rattle.reading.specs.Masks.{StemsFirst, ByNote}
-use Rattle.reading.specs.Answers.{flattened, flattening}
+use Rattle.reading.specs.Answers.{Flattening, flattened, flattening}
 use Rattle.reading.specs.Demands.{SameGlyph, empty}
 use Rattle.reading.specs.DemandLaws.{demand-three, masks-by-note, within-budget}
 use Rattle.reading.specs.declared.Advance.{Advance}
@@ -37,24 +37,27 @@ module _ (κs : Lfts 2) (a : Dens κs kinds.ps) (x : AtExit (endedOf 2 kinds.ps 
       → P (take n (flattening rules (a .0 .now) (a .1 .0 .now) (a .1 .1 .0 .now) (a .1 .1 .1 .1 .0) (a .1 .1 .1 .1 .1 .0 .now) .left)) → P reported
   of-call P h = subst (λ (l : List ℕ). P (take n l)) (sym (left-as first)) h
 
+  abbrev answered : Flattening
+  answered = record { size = n; tokens = t; advance = w }
+
   -- its bytes say the same glyph
-  pub says-the-same : SameGlyph rules (a .0 .now) (a .1 .0 .now) (a .1 .1 .0 .now) (a .1 .1 .1 .1 .0) (record { size = n; tokens = t; advance = w }) reported
+  pub says-the-same : SameGlyph rules (a .0 .now) (a .1 .0 .now) (a .1 .1 .0 .now) (a .1 .1 .1 .1 .0) answered reported
   says-the-same =
-      of-call (SameGlyph rules (a .0 .now) (a .1 .0 .now) (a .1 .1 .0 .now) (a .1 .1 .1 .1 .0) (record { size = n; tokens = t; advance = w }))
-      (demand-three rules (a .0 .now) (a .1 .0 .now) (a .1 .1 .0 .now) (a .1 .1 .1 .1 .0) (a .1 .1 .1 .1 .1 .0 .now) (record { size = n; tokens = t; advance = w })
+      of-call (SameGlyph rules (a .0 .now) (a .1 .0 .now) (a .1 .1 .0 .now) (a .1 .1 .1 .1 .0) answered)
+      (demand-three rules (a .0 .now) (a .1 .0 .now) (a .1 .1 .0 .now) (a .1 .1 .1 .1 .0) (a .1 .1 .1 .1 .1 .0 .now) answered
       cs-bytes globals-bytes locals-bytes (sym (answer-as first)))
 
   -- where their stems stand first, each of their masks has TN5177's bytes
   pub masks-are-noted : StemsFirst rules (straight rules reported .items) → ByNote rules (straight rules reported .items)
   masks-are-noted =
       of-call (λ f. StemsFirst rules (straight rules f .items) → ByNote rules (straight rules f .items))
-      (masks-by-note rules (a .0 .now) (a .1 .0 .now) (a .1 .1 .0 .now) (a .1 .1 .1 .1 .0) (a .1 .1 .1 .1 .1 .0 .now) (record { size = n; tokens = t; advance = w })
+      (masks-by-note rules (a .0 .now) (a .1 .0 .now) (a .1 .1 .0 .now) (a .1 .1 .1 .1 .0) (a .1 .1 .1 .1 .1 .0 .now) answered
       cs-bytes globals-bytes locals-bytes (sym (answer-as first)))
 
   -- and the tokens are at most the budget
   pub within : t ≤ a .1 .1 .1 .1 .0
   within =
-      within-budget rules (a .0 .now) (a .1 .0 .now) (a .1 .1 .0 .now) (a .1 .1 .1 .1 .0) (a .1 .1 .1 .1 .1 .0 .now) (record { size = n; tokens = t; advance = w })
+      within-budget rules (a .0 .now) (a .1 .0 .now) (a .1 .1 .0 .now) (a .1 .1 .1 .1 .0) (a .1 .1 .1 .1 .1 .0 .now) answered
       cs-bytes globals-bytes locals-bytes (sym (answer-as first))
 
   -- A second call, on those bytes, with the same profile, two empty INDEXes, a budget of t and room for them, is accepted with the same length and

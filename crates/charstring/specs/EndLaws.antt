@@ -97,9 +97,9 @@ module _ (u : Setup) (stack out : List ℕ) (s : State) (i : ℕ) (h : Here u st
           on = λ z. subst (Repr (u .rules) stack out (returned s)) (sym same) now-back;
         }
 
-    pub by-end : (length₁ : ℕ) (w : Advance) (out₁ : List ℕ) → u .rules .kind p ≡ End → s .count < 4 → w ≡ settledAt (u .rules .takes p) stack s
-        → out₁ ≡ sets out (s .length) (operatorBytes p) → length₁ ≡ s .length + length (operatorBytes p)
-        → EndsWith Ended (finished s length₁ w) out₁
+    pub by-end : (length₁ : ℕ) (w : Advance) (out₁ : List ℕ) → u .rules .kind p ≡ End → s .count < 4
+        → w ≡ settledAt (u .rules .takes p) stack s → out₁ ≡ sets out (s .length) (operatorBytes p)
+        → length₁ ≡ s .length + length (operatorBytes p) → EndsWith Ended (finished s length₁ w) out₁
     unfolding struck flat spelled
     by-end length₁ w out₁ k l v d long =
         let g = ends p (drop j (u .cs)) (a .cut-is) k (subst (λ (n : ℕ). n < 4) (sym (counted-as u stack out s i h .count-is)) l) in
@@ -115,6 +115,7 @@ module _ (u : Setup) (stack out : List ℕ) (s : State) (i : ℕ) (h : Here u st
           length-is = ap (λ (y : Now). length (flat (struck (y .shown)))) same ∙ size;
           bytes = subst (λ (y : Now). Begins out₁ (flat (struck (y .shown)))) (sym same)
               (subst (λ (o : List ℕ). Begins o (f ++ operatorBytes p)) (sym d) (sets-begins out (s .length) (operatorBytes p) f (r .length-is) (r .bytes)));
-          advance-is = ap (λ (y : Now). y .left .advance) same ∙ end-says (h .now .left) k ∙ settled-so (u .rules .takes p) stack s (h .now .left) (r .held) ∙ sym v;
+          advance-is = ap (λ (y : Now). y .left .advance) same ∙ end-says (h .now .left) k
+              ∙ settled-so (u .rules .takes p) stack s (h .now .left) (r .held) ∙ sym v;
           on = λ z. absurd (ended-not-back (sym (ap (λ (x : Run). x .how) e) ∙ z));
         }

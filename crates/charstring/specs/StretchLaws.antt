@@ -116,8 +116,8 @@ module _ (cs : List ℕ) (by : Limits) (stack₀ out₀ : List ℕ) (s₀ : Stat
         (λ g y. by-push (upon cs by g) stack out s i (h .stands g y) words (shortOf b x) j w (a .1 .others) out₁ e (a .0) v
         (d ∙ ap (λ (bs : List ℕ). sets out (s .length) bs) (a .1 .bytes)) (q ∙ ap (λ (n : ℕ). s .length + n) (sym (a .1 .long))))
 
-    pub arm-clear : (p : Operator) (j x e : ℕ) (w : Advance) (out₁ : List ℕ) (s₁ : State) → Asks (Clears j x p) → w ≡ settledAt (type2Takes p) stack s
-        → out₁ ≡ sets out (s .length) (operatorBytes p)
+    pub arm-clear : (p : Operator) (j x e : ℕ) (w : Advance) (out₁ : List ℕ) (s₁ : State) → Asks (Clears j x p)
+        → w ≡ settledAt (type2Takes p) stack s → out₁ ≡ sets out (s .length) (operatorBytes p)
         → e ≡ s .length + length (operatorBytes p) → s₁ ≡ cleared s x e w → Stands stack out₁ s₁ j
     arm-clear p j x e w out₁ s₁ a v d q same =
         becomes _ _ _ _ j same (λ g y. by-clear (upon cs by g) stack out s i (h .stands g y) words p j x e w out₁ (a .0) (a .1) v d q)
@@ -158,7 +158,8 @@ module _ (cs : List ℕ) (by : Limits) (stack₀ out₀ : List ℕ) (s₀ : Stat
     arm-return r e a = given r _ out e (λ g y. by-return (upon cs by g) stack out s i (h .stands g y) (a .0) (a .1) (a .2) (a .3))
 
     pub arm-end : (p : Operator) (n : ℕ) (w : Advance) (out₁ : List ℕ) (r : Stretched) → r ≡ record { st = finished s n w; stop = Finished Ended }
-        → Asks (Ends p) → w ≡ settledAt (type2Takes p) stack s → out₁ ≡ sets out (s .length) (operatorBytes p) → n ≡ s .length + length (operatorBytes p) → Gives r out₁
+        → Asks (Ends p) → w ≡ settledAt (type2Takes p) stack s → out₁ ≡ sets out (s .length) (operatorBytes p)
+        → n ≡ s .length + length (operatorBytes p) → Gives r out₁
     unfolding StretchesTo
     arm-end p n w out₁ r e a v d q =
         given r _ out₁ e (λ g y. by-end (upon cs by g) stack out s i (h .stands g y) p (a .0) (a .1) n w out₁ (a .2) (a .3) v d q)

@@ -13,7 +13,8 @@ use Rattle.number.specs.Number.{charstringRows}
 use Rattle.number.specs.Written.{spelling}
 use Rattle.number.specs.declared.Operand.{Operand}
 use Rattle.reading.specs.Rules.{Rules}
-use Rattle.reading.specs.Items.{Item, operand, bare, masked as mask-of, Left, pushed as onto, cleared as without, counted, firstMask, atMask, settling, byKind, leaves}
+use Rattle.reading.specs.Items.{Item, operand, bare, masked as mask-of, Left, pushed as onto, cleared as without, counted, firstMask, atMask}
+use Rattle.reading.specs.Items.{settling, byKind, leaves}
 use Rattle.reading.specs.Reading.{struck, State as Now, go, shows}
 use Rattle.reading.specs.Flat.{operatorBytes, spelled, flat}
 use Rattle.reading.specs.StepLaws.{pushes, stems, clears, masks}
@@ -25,7 +26,8 @@ use Rattle.reading.specs.declared.Kind.the-variants.{Stem, Clear, Mask}
 use Rattle.charstring.specs.Words.{unpackOf, stackOf}
 use Rattle.charstring.specs.WordsLaws.{sets-begins, begins-cut, stack-pushed}
 use Rattle.charstring.specs.States.{pushed, cleared, masked}
-use Rattle.charstring.specs.Run.{AtOperator, Hinted, stays, counts, Light, MaskFixed, first, later, Pushes, Begins, tailOf, Holds, Repr, settledAt, Setup, Here}
+use Rattle.charstring.specs.Run.{AtOperator, Hinted, stays, counts, Light, MaskFixed, first, later, Pushes, Begins, tailOf}
+use Rattle.charstring.specs.Run.{Holds, Repr, settledAt, Setup, Here}
 use Rattle.charstring.specs.LookLaws.{over-none}
 use Rattle.charstring.specs.HereLaws.{settled-so, counted-as, taken, led, Leads, goes-on}
 use Rattle.charstring.specs.declared.state.State.{State}
@@ -109,9 +111,14 @@ module _ (u : Setup) (stack out : List ℕ) (s : State) (i : ℕ) (h : Here u st
     abbrev Leaves : Item → Left → Type 0
     Leaves k y = leaves (u .rules) k (h .now .left) ≡ settling (u .rules .takes p) (h .now .left) y
 
+    -- w is that width, as the code makes it
+    abbrev Settles : Advance → Type 0
+    Settles w = w ≡ settledAt (u .rules .takes p) stack s
+
     -- so the code holds it
-    settles : (w : Advance) (stack₁ : List ℕ) (s₁ : State) (y : Left) → w ≡ settledAt (u .rules .takes p) stack s
-        → y .operands ≡ stackOf stack₁ (s₁ .count) → y .hints ≡ s₁ .hints → y .mask ≡ s₁ .mask → true ≡ s₁ .settled → w ≡ s₁ .advance
+    settles : (w : Advance) (stack₁ : List ℕ) (s₁ : State) (y : Left) → Settles w
+        → y .operands ≡ stackOf stack₁ (s₁ .count) → y .hints ≡ s₁ .hints → y .mask ≡ s₁ .mask
+        → true ≡ s₁ .settled → w ≡ s₁ .advance
         → Holds stack₁ s₁ (settling (u .rules .takes p) (h .now .left) y)
     settles w stack₁ s₁ y v ops hs ms done is =
         record {
@@ -127,21 +134,22 @@ module _ (u : Setup) (stack out : List ℕ) (s : State) (i : ℕ) (h : Here u st
     leaves-kind k e = ap (λ (y : Kind). byKind (u .rules .takes p) y (h .now .left)) e
 
     -- one that clears the stack
-    clear-turn : (j hints length₁ : ℕ) (w : Advance) (y : Left) (out₁ : List ℕ) → AtOperator (u .cs) i j (s .tokens) (u .budget) p → Leaves (bare p) y
-        → Leads u stack out s i h (go (drop j (u .cs)) (shows (u .rules) (bare p) (h .now))) → w ≡ settledAt (u .rules .takes p) stack s
+    clear-turn : (j hints length₁ : ℕ) (w : Advance) (y : Left) (out₁ : List ℕ) → AtOperator (u .cs) i j (s .tokens) (u .budget) p
+        → Leaves (bare p) y → Leads u stack out s i h (go (drop j (u .cs)) (shows (u .rules) (bare p) (h .now))) → Settles w
         → out₁ ≡ sets out (s .length) (operatorBytes p) → length₁ ≡ s .length + length (operatorBytes p)
         → y .operands ≡ [] → y .hints ≡ hints → hints ≤ u .rules .hints → y .mask ≡ s .mask
         → Here u stack out₁ (cleared s hints length₁ w) j
     unfolding spelled tailOf stackOf
     clear-turn j hints length₁ w y out₁ a is g v d long ops hs hinted mask =
-        goes-on u stack out s i h j _ _ _ (cleared s hints length₁ w) (a .begun .ahead) (a .begun .inside) (taken u stack out s i h (a .begun .within) _ g)
+        goes-on u stack out s i h j _ _ _ (cleared s hints length₁ w) (a .begun .ahead) (a .begun .inside)
+        (taken u stack out s i h (a .begun .within) _ g)
         (emitted (u .rules) stack out s (h .now) (h .repr) (bare p) _ stack out₁ (cleared s hints length₁ w) is (led u stack out s i h _ g .1)
         (stored (u .rules) stack out s (h .now) (h .repr) (operatorBytes p) out₁ d) zero-le
         (settles w stack (cleared s hints length₁ w) y v ops hs mask refl refl) hinted refl refl long)
 
-    pub by-clear : (j hints length₁ : ℕ) (w : Advance) (out₁ : List ℕ) → AtOperator (u .cs) i j (s .tokens) (u .budget) p → Hinted (u .rules) s p hints
-        → w ≡ settledAt (u .rules .takes p) stack s → out₁ ≡ sets out (s .length) (operatorBytes p) → length₁ ≡ s .length + length (operatorBytes p)
-        → Here u stack out₁ (cleared s hints length₁ w) j
+    pub by-clear : (j hints length₁ : ℕ) (w : Advance) (out₁ : List ℕ) → AtOperator (u .cs) i j (s .tokens) (u .budget) p
+        → Hinted (u .rules) s p hints → Settles w → out₁ ≡ sets out (s .length) (operatorBytes p)
+        → length₁ ≡ s .length + length (operatorBytes p) → Here u stack out₁ (cleared s hints length₁ w) j
     unfolding byKind
     by-clear j hints length₁ w out₁ a (stays k e) v d long =
         let r = h .repr in
@@ -156,8 +164,8 @@ module _ (u : Setup) (stack out : List ℕ) (s : State) (i : ℕ) (h : Here u st
     abbrev now-fixed : Left
     now-fixed = atMask (h .now .left)
 
-    mask-turn : (a b c hints length₁ : ℕ) (w : Advance) (out₁ : List ℕ) → AtOperator (u .cs) i a (s .tokens) (u .budget) p → u .rules .kind p ≡ Mask
-        → w ≡ settledAt (u .rules .takes p) stack s → Light (u .rules) s → hints ≤ u .rules .hints → a ≤ b → b ≤ length (u .cs)
+    mask-turn : (a b c hints length₁ : ℕ) (w : Advance) (out₁ : List ℕ) → AtOperator (u .cs) i a (s .tokens) (u .budget) p
+        → u .rules .kind p ≡ Mask → Settles w → Light (u .rules) s → hints ≤ u .rules .hints → a ≤ b → b ≤ length (u .cs)
         → out₁ ≡ sets out (s .length) (operatorBytes p ++ take (b - a) (drop a (u .cs))) → length₁ ≡ s .length + length (operatorBytes p) + (b - a)
         → c ≤ length stack → now-fixed .operands ≡ stackOf stack c → now-fixed .hints ≡ hints → now-fixed .mask ≡ b - a
         → Here u stack out₁ (masked s c hints (b - a) length₁ w) b
@@ -181,10 +189,10 @@ module _ (u : Setup) (stack out : List ℕ) (s : State) (i : ℕ) (h : Here u st
         (settles w stack (masked s c hints (b - a) length₁ w) now-fixed v ops hs ms refl refl) most refl refl
         (let e = length-append (operatorBytes p) m in omega arith))
 
-    pub by-mask : (a b c hints length₁ : ℕ) (w : Advance) (out₁ : List ℕ) → AtOperator (u .cs) i a (s .tokens) (u .budget) p → u .rules .kind p ≡ Mask
-        → hints ≤ u .rules .hints → a ≤ b → b ≤ length (u .cs) → MaskFixed (u .rules) s c hints (b - a)
-        → w ≡ settledAt (u .rules .takes p) stack s → out₁ ≡ sets out (s .length) (operatorBytes p ++ take (b - a) (drop a (u .cs))) → length₁ ≡ s .length + length (operatorBytes p) + (b - a)
-        → Here u stack out₁ (masked s c hints (b - a) length₁ w) b
+    pub by-mask : (a b c hints length₁ : ℕ) (w : Advance) (out₁ : List ℕ) → AtOperator (u .cs) i a (s .tokens) (u .budget) p
+        → u .rules .kind p ≡ Mask → hints ≤ u .rules .hints → a ≤ b → b ≤ length (u .cs) → MaskFixed (u .rules) s c hints (b - a)
+        → Settles w → out₁ ≡ sets out (s .length) (operatorBytes p ++ take (b - a) (drop a (u .cs)))
+        → length₁ ≡ s .length + length (operatorBytes p) + (b - a) → Here u stack out₁ (masked s c hints (b - a) length₁ w) b
     by-mask a b c hints length₁ w out₁ q k l ab bn (first z cz e m) v d long =
         let x = h .now .left in
         let is : now-fixed ≡ firstMask x = rw (eq-eqb (x .mask) 0 (counted-as u stack out s i h .mask-is ∙ z)) in
@@ -196,5 +204,5 @@ module _ (u : Setup) (stack out : List ℕ) (s : State) (i : ℕ) (h : Here u st
         let same : now-fixed ≡ h .now .left = rw (ne-eqb (h .now .left .mask) 0 (λ y. z (sym (counted-as u stack out s i h .mask-is) ∙ y))) in
         let r = h .repr in
         mask-turn a b c hints length₁ w out₁ q k v (inr few) l ab bn d long (subst (λ (n : ℕ). n ≤ length stack) (sym cz) (r .room))
-        (ap (λ (y : Left). y .operands) same ∙ r .held .ops ∙ ap (stackOf stack) (sym cz)) (ap (λ (y : Left). y .hints) same ∙ r .held .hints-are ∙ sym e)
-        (ap (λ (y : Left). y .mask) same ∙ r .held .mask-is ∙ sym m)
+        (ap (λ (y : Left). y .operands) same ∙ r .held .ops ∙ ap (stackOf stack) (sym cz))
+        (ap (λ (y : Left). y .hints) same ∙ r .held .hints-are ∙ sym e) (ap (λ (y : Left). y .mask) same ∙ r .held .mask-is ∙ sym m)

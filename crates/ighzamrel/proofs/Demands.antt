@@ -139,17 +139,19 @@ module _ (κs : Lfts 8) (a : Dens κs kinds.ps) (x : AtExit (endedOf 8 kinds.ps 
     unfolding tell
     whole = second ∙ ap (λ (o : Outcome (Answer Flattening)). tellFlattening o old) again
 
-    -- It answers 0, sets *length to n and *tokens to the number of their items, at most t, leaves *entry and *reason, tells the same advance width, and
-    -- gives the same bytes back: the rest of its room is as lent.
+    -- It answers 0, sets *length to n and *tokens to the number of their items, at most t, leaves *entry and *reason, tells the same advance width
+    -- and gives the same bytes back: the rest of its room is as lent.
     pub comes-back : (r′ ≡ 0) × (set .length ≡ n) × (set .tokens ≡ items) × (set .entry ≡ old .entry) × (set .reason ≡ old .reason)
-        × (advanceTold (set .widthKind) (set .width) ≡ w) × (x′ .1 .1 .1 .1 .1 .0 .now ≡ reported ++ drop n (a′ .1 .1 .1 .1 .1 .0 .now)) × (items ≤ t)
+        × (advanceTold (set .widthKind) (set .width) ≡ w)
+        × (x′ .1 .1 .1 .1 .1 .0 .now ≡ reported ++ drop n (a′ .1 .1 .1 .1 .1 .0 .now)) × (items ≤ t)
     comes-back = (
       ap (λ (y : Outcome (Told FlatPlaces)). y .answer .number) whole,
       ap (λ (y : Outcome (Told FlatPlaces)). y .answer .places .length) whole,
       ap (λ (y : Outcome (Told FlatPlaces)). y .answer .places .tokens) whole,
       ap (λ (y : Outcome (Told FlatPlaces)). y .answer .places .entry) whole,
       ap (λ (y : Outcome (Told FlatPlaces)). y .answer .places .reason) whole,
-      ap (λ (y : Outcome (Told FlatPlaces)). advanceTold (y .answer .places .widthKind) (y .answer .places .width)) whole ∙ sym (advance-back w (old .width)),
+      ap (λ (y : Outcome (Told FlatPlaces)). advanceTold (y .answer .places .widthKind) (y .answer .places .width)) whole
+          ∙ sym (advance-back w (old .width)),
       left-as whole,
       says-the-same .fewer,
     )

@@ -18,7 +18,8 @@ use Rattle.font.specs.Demands.{Why, bad-globals, bad-locals, bad-charstrings, b
 use Rattle.font.specs.RefusalLaws.{refusal-demand}
 use Rattle.reading.specs.declared.Advance.{Advance}
 use Rattle.reading.specs.declared.Advance.the-variants.{Default, Given}
-use Rattle.ighzamrel.specs.Told.{kindOf, widthKindOf, widthOr, advanceTold, Told, told, tell, FlatPlaces, flatPlaces, flatPlacesOr, FontPlaces, fontPlaces, fontPlacesOr}
+use Rattle.ighzamrel.specs.Told.{kindOf, widthKindOf, widthOr, advanceTold, Told, told, tell}
+use Rattle.ighzamrel.specs.Told.{FlatPlaces, flatPlaces, flatPlacesOr, FontPlaces, fontPlaces, fontPlacesOr}
 
 -- what is refused is refused by a number above 0
 abbrev pub Numbered : {A : Type 0} → Answer A → Type 0

@@ -3,8 +3,6 @@ use mathlib.Core.Path.{_≡_, refl, sym, ap, _∙_}
 use Prim.Native.Nat.{ℕ}
 use mathlib.Core.List.{List}
 use Rattle.number.specs.Answer.{Values, Answer, accepted, refused, numberIn, tokensOr, entryOr, Outcome, leaving}
-use Rattle.index.specs.Formed.{reasonOf, reasonAt}
-use Rattle.index.specs.declared.list.Flaw.{Flaw}
 use Rattle.reading.specs.Answers.{stopValues}
 use Rattle.reading.specs.declared.Stopped.{Stopped}
 use Rattle.reading.specs.declared.Stopped.the-variants.{At, Alone}

@@ -1,5 +1,5 @@
 -- The demands, proved: each theorem has the type that Demands.antt states. Assumes nothing.
-use mathlib.Core.Path.{sym, subst}
+use mathlib.Core.Path.{sym, ap, subst, _∙_}
 use mathlib.Core.List.{List}
 use native.Mathlib.Omega.{arith}
 use Rattle.reading.specs.Rules.{plain, strict}
@@ -7,11 +7,13 @@ use Rattle.reading.specs.Lists.{listsOf}
 use Rattle.reading.specs.Items.{Item}
 use Rattle.reading.specs.Masks.{StemsFirst, ByNote, CleanMasks}
 use Rattle.reading.specs.Demands.{EndcharLast, LastByte, SameGlyph, DemandThree, MasksByNote, MasksClean, EndsInEndchar, EndsIn14, NeverEight}
-use Rattle.reading.specs.Demands.{AdvanceOfItems, WithinBudget, EnoughBudget, SmallBudget, StrictThenPlain}
+use Rattle.reading.specs.Demands.{AdvanceOfItems, AdvanceByNote, WithinBudget, EnoughBudget, SmallBudget, StrictThenPlain}
 use Rattle.reading.specs.AnswerLaws.{answer-within, answer-enough, answer-short, answer-looser, run-stopped}
 use Rattle.reading.specs.TighterLaws.{strict-tighter}
 use Rattle.reading.specs.SameGlyphLaws.{whole-items, ended-run, reported-is, items-are, advance-is, same-items, lists-bytes}
+use Rattle.reading.specs.Widths.{noted}
 use Rattle.reading.specs.MaskLaws.{whole-note}
+use Rattle.reading.specs.WidthLaws.{whole-noted}
 use Rattle.reading.specs.CleanLaws.{whole-clean, run-not-eight}
 use Rattle.reading.specs.EndcharLaws.{whole-ends, whole-last}
 
@@ -22,6 +24,12 @@ demand-three rules cs globals locals budget out x bytes g l a =
 
 pub advance-of-items : AdvanceOfItems
 advance-of-items rules cs globals locals budget out x bytes g l a = advance-is rules cs globals locals budget out x bytes g l a
+
+pub advance-by-note : AdvanceByNote
+advance-by-note rules cs globals locals budget out x bytes g l a =
+    advance-is rules cs globals locals budget out x bytes g l a
+    ∙ whole-noted rules _ _ (whole-items rules cs globals locals budget out x bytes g l a)
+    ∙ ap (noted rules) (sym (items-are rules cs globals locals budget out x bytes g l a))
 
 pub masks-by-note : MasksByNote
 masks-by-note rules cs globals locals budget out x bytes g l a =

@@ -14,6 +14,7 @@ use Rattle.reading.specs.Reading.{struck, original}
 use Rattle.reading.specs.Flat.{straight}
 use Rattle.reading.specs.Answers.{Flattening, flattening}
 use Rattle.reading.specs.Masks.{StemsFirst, ByNote, CleanMasks}
+use Rattle.reading.specs.Widths.{noted}
 use Rattle.reading.specs.declared.Operator.{Operator}
 use Rattle.reading.specs.declared.Kind.{Kind}
 use Rattle.reading.specs.declared.Kind.the-variants.{Stem, Clear, Mask, Call, Return, End, Unknown}
@@ -105,6 +106,11 @@ DemandThree = OfAccepted (λ rules cs globals locals budget out x.
 abbrev pub AdvanceOfItems : Type 0
 AdvanceOfItems = OfAccepted (λ rules cs globals locals budget out x.
     x .advance ≡ advanceIn rules (struck (original rules cs globals locals budget .state .shown)))
+
+-- which is the one that TN5177 alone gives to F
+abbrev pub AdvanceByNote : Type 0
+AdvanceByNote = OfAccepted (λ rules cs globals locals budget out x.
+    x .advance ≡ noted rules (straight rules (reported rules cs globals locals budget out x) .items))
 
 -- demand 2's hint masks: where all stems of F stand before its first mask with bytes, each mask of F has TN5177's bytes
 abbrev pub MasksByNote : Type 0

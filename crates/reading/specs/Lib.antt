@@ -7,6 +7,7 @@ pub mod Flat
 pub mod Answers
 pub mod Valid
 pub mod Masks
+pub mod Widths
 pub mod Demands
 pub mod CutLaws
 pub mod StepLaws
@@ -20,6 +21,7 @@ pub mod StraightLaws
 pub mod AnswerLaws
 pub mod SameGlyphLaws
 pub mod MaskLaws
+pub mod WidthLaws
 pub mod CleanLaws
 pub mod EndcharLaws
 pub mod DemandLaws

@@ -60,7 +60,8 @@ module _ (rules : Rules) where
     unfolding leftBy leaves byKind hasMask declared waiting
     tied-clear p e (before h m n k) =
         before h (ap (λ (y : Kind). byKind (rules .takes p) y x .mask) e ∙ m)
-        (ap (λ (y : Kind). byKind (rules .takes p) y x .hints) e ∙ n ∙ sym (ap (λ (y : Kind). cond (isStem y) (declared rules f + waiting f / 2) (declared rules f)) e))
+        (ap (λ (y : Kind). byKind (rules .takes p) y x .hints) e ∙ n
+        ∙ sym (ap (λ (y : Kind). cond (isStem y) (declared rules f + waiting f / 2) (declared rules f)) e))
         (ap (λ (y : Kind). length (byKind (rules .takes p) y x .operands)) e)
     tied-clear p e (behind h q m) =
         behind h (subst (λ (y : Kind). 0 < byKind (rules .takes p) y x .mask) (sym e) q)

@@ -4,7 +4,7 @@ use mathlib.Core.Path.{_≡_, refl}
 use mathlib.Core.List.{List, [], _∷_, _++_}
 use mathlib.Core.Bool.{Bool, true, false}
 use Prim.Native.Nat.{ℕ, _+_}
-use lib.IntN.{pos, negsuc}
+use lib.IntN.{ℤ, pos, negsuc}
 use lib.ListN.{length, drop, replicate}
 use Rattle.number.specs.Answer.{Values, alone, atToken, needingAt, atEntry, because, Answer, accepted, refused, Outcome, leaving, into}
 use Rattle.number.specs.BigEndian.{beAt, bytesOf}
@@ -258,12 +258,15 @@ endsInTurn =
 
 -- ---- the advance width
 
--- a flat string that comes back in so many tokens, without a width, and with the width 1
+-- a flat string that comes back in so many tokens, without a width, with this one, and with the width 1
 abbrev silent : List ℕ → ℕ → Row
 silent cs t = row cs none (gives cs t)
 
+abbrev telling : List ℕ → ℕ → Bool → ℤ → Row
+telling cs t fixed value = row cs none (says cs t (record { fixed = fixed; value = value }))
+
 abbrev saying : List ℕ → ℕ → Row
-saying cs t = row cs none (says cs t (whole 1))
+saying cs t = telling cs t false (pos 1)
 
 abbrev pub widthsAtStems : List Row
 widthsAtStems =
@@ -317,9 +320,9 @@ otherWidths =
     ∷ silent (0x8C ∷ 0x0C ∷ 0x23 ∷ 0x8C ∷ 0x0E ∷ []) 4
     ∷ silent (0x8C ∷ []) 1
     -- a Fixed, by its bits, and an integer below 0
-    ∷ row (0xFF ∷ 0x00 ∷ 0x05 ∷ 0x80 ∷ 0x00 ∷ 0x0E ∷ []) none (says (0xFF ∷ 0x00 ∷ 0x05 ∷ 0x80 ∷ 0x00 ∷ 0x0E ∷ []) 2 (record { fixed = true; value = pos 360448 }))
-    ∷ row (0xFF ∷ 0xFF ∷ 0xFF ∷ 0x80 ∷ 0x00 ∷ 0x0E ∷ []) none (says (0xFF ∷ 0xFF ∷ 0xFF ∷ 0x80 ∷ 0x00 ∷ 0x0E ∷ []) 2 (record { fixed = true; value = negsuc 32767 }))
-    ∷ row (0x8A ∷ 0x8B ∷ 0x16 ∷ []) none (says (0x8A ∷ 0x8B ∷ 0x16 ∷ []) 3 (record { fixed = false; value = negsuc 0 }))
+    ∷ telling (0xFF ∷ 0x00 ∷ 0x05 ∷ 0x80 ∷ 0x00 ∷ 0x0E ∷ []) 2 true (pos 360448)
+    ∷ telling (0xFF ∷ 0xFF ∷ 0xFF ∷ 0x80 ∷ 0x00 ∷ 0x0E ∷ []) 2 true (negsuc 32767)
+    ∷ telling (0x8A ∷ 0x8B ∷ 0x16 ∷ []) 3 false (negsuc 0)
     -- seen through a call; in a subroutine, also without its caller's endchar; left by one; and not a call's index
     ∷ row (0x8C ∷ 0x20 ∷ 0x0A ∷ 0x0E ∷ []) L (says (0x8C ∷ 0x8C ∷ 0x8D ∷ 0x15 ∷ 0x0E ∷ []) 8 (whole 1))
     ∷ row (0x20 ∷ 0x0A ∷ []) (only (0x8C ∷ 0x0E ∷ [])) (says (0x8C ∷ 0x0E ∷ []) 4 (whole 1))

@@ -95,10 +95,11 @@ module _ (a b : Rules) (t : Tighter a b) where
 
 module _ (a b : Rules) (t : Tighter a b) (lists : Lists) (budget : ℕ) where
   module _ (levels levels′ at : ℕ) (deep : levels ≤ levels′) (bytes : List ℕ) (s : State) where
-    -- what the tighter rules take, the others take
-    on-with : (i : Item) (rest : List ℕ) → Goes b lists levels′ at bytes s (go rest (shows b i s)) → Goes b lists levels′ at bytes s (go rest (shows a i s))
+    on-with : (i : Item) (rest : List ℕ) → Goes b lists levels′ at bytes s (go rest (shows b i s))
+        → Goes b lists levels′ at bytes s (go rest (shows a i s))
     on-with i rest g = subst (λ (y : State). Goes b lists levels′ at bytes s (go rest y)) (shows-same a b t i s) g
 
+    -- what the tighter rules take, the others take
     taken : (x : Step) → Goes a lists levels at bytes s x → Goes b lists levels′ at bytes s x
     taken x (pushes o rest q l) = on-with (operand o) rest (pushes o rest q (let h = t .operands in omega arith))
     taken x (stems p rest q k l) = on-with (bare p) rest (stems p rest q (sym (t .kind p) ∙ k) (let h = t .hints in omega arith))
