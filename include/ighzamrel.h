@@ -71,6 +71,11 @@ enum ighzamrel_kind {
     IGHZAMREL_FIXED = 1 /* a value that counts 65536ths */
 };
 
+/* What the kind of a width, `width_kind`, may be besides: there is none. Reading a number never gives it. */
+enum ighzamrel_width_kind {
+    IGHZAMREL_NO_WIDTH = 2
+};
+
 /*
  * The rules to run by, `profile`. What is not 0 is taken as strict: Technical Note 5177's limits, an index that is exactly
  * whole, no operands at a mask once an earlier one has fixed its length, and an end by endchar, its own or a
@@ -143,14 +148,19 @@ uint32_t ighzamrel_write_index(const uint32_t *lengths, size_t lengths_len, cons
 /*
  * Writes the flat string of a charstring to the start of out. `globals` and `locals` are the two subroutine
  * INDEXes, 00 00 where a font has none; `budget` is how many tokens may be run, through every call.
- * 0: *length, how many bytes the flat string has, and *tokens, how many tokens were run. 1 or 2: *reason, what
- * ighzamrel_check_list answers for that list, and at 40, 41 and 42 its *entry. 3 to 12: *tokens, with the token that
- * is refused but at 3. 15 or 16: no place. 13: *length, how many bytes are needed, and *tokens.
+ * 0: *length, how many bytes the flat string has, *tokens, how many tokens were run, and *width_kind, the kind of the
+ * width that the charstring says, with its value in *width; or IGHZAMREL_NO_WIDTH, and *width is left as it was.
+ * 1 or 2: *reason, what ighzamrel_check_list answers for that list, and at 40, 41 and 42 its *entry. 3 to 12: *tokens,
+ * with the token that is refused but at 3. 15 or 16: no place. 13: *length, how many bytes are needed, and *tokens.
+ *
+ * The width is the bottom operand at the first operator that is no call and no return: of an odd count at a stem or a
+ * mask, of more than two at rmoveto, of more than one at hmoveto or vmoveto, and of any at endchar; else there is none.
+ * Added to nominalWidthX of the glyph's Private DICT it is the advance width, which is defaultWidthX where there is none.
  */
 uint32_t ighzamrel_flatten(const uint8_t *charstring, size_t charstring_len, const uint8_t *globals,
                            size_t globals_len, const uint8_t *locals, size_t locals_len, uint32_t profile,
                            uint32_t budget, uint8_t *out, size_t out_len, size_t *length, uint32_t *tokens,
-                           uint32_t *entry, uint32_t *reason);
+                           uint32_t *entry, uint32_t *reason, uint32_t *width_kind, int32_t *width);
 
 /* What ighzamrel_flatten answers and sets. A later version may have more, behind these. */
 typedef struct ighzamrel_flattening {
@@ -159,6 +169,8 @@ typedef struct ighzamrel_flattening {
     uint32_t tokens;
     uint32_t entry;
     uint32_t reason;
+    uint32_t width_kind;
+    int32_t width;
 } ighzamrel_flattening;
 
 /* Calls ighzamrel_flatten with the places of *result, and gives its answer; what that does not set is 0. */
@@ -171,9 +183,11 @@ static inline uint32_t ighzamrel_flatten_into(const uint8_t *charstring, size_t 
     result->tokens = 0;
     result->entry = 0;
     result->reason = 0;
+    result->width_kind = 0;
+    result->width = 0;
     result->answer = ighzamrel_flatten(charstring, charstring_len, globals, globals_len, locals, locals_len, profile,
                                        budget, out, out_len, &result->length, &result->tokens, &result->entry,
-                                       &result->reason);
+                                       &result->reason, &result->width_kind, &result->width);
     return result->answer;
 }
 

@@ -1,6 +1,6 @@
 /*
- * One charstring made flat, the same charstring refused, and a list of subroutines that is damaged; then the glyphs of
- * a whole font; and what the strict profile refuses beyond the plain one.
+ * One charstring made flat, the same charstring refused, and a list of subroutines that is damaged; the glyphs of a
+ * whole font; what the strict profile refuses beyond the plain one; and charstrings that say their width.
  *
  *     cc example.c $(pkg-config --cflags --libs ighzamrel)
  */
@@ -64,6 +64,16 @@ static void show_bytes(const uint8_t *bytes, size_t n)
     printf("\n");
 }
 
+/* What the charstring says of its advance width: it is so much more than the font's nominalWidthX, or defaultWidthX. */
+static void show_width(const ighzamrel_flattening *flat)
+{
+    switch (flat->width_kind) {
+    case IGHZAMREL_INTEGER: printf("nominalWidthX + %ld", (long)flat->width); break;
+    case IGHZAMREL_FIXED: printf("nominalWidthX + %ld/65536", (long)flat->width); break;
+    case IGHZAMREL_NO_WIDTH: printf("defaultWidthX"); break;
+    }
+}
+
 static void show(uint32_t profile, const uint8_t *charstring, size_t charstring_len, const uint8_t *locals,
                  size_t locals_len)
 {
@@ -74,7 +84,9 @@ static void show(uint32_t profile, const uint8_t *charstring, size_t charstring_
         explain(&flat);
         return;
     }
-    printf("flat, %u bytes in %u tokens:", (unsigned)flat.length, (unsigned)flat.tokens);
+    printf("flat, %u bytes in %u tokens, width ", (unsigned)flat.length, (unsigned)flat.tokens);
+    show_width(&flat);
+    printf(":");
     show_bytes(out, flat.length);
 }
 
@@ -137,6 +149,9 @@ int main(void)
     /* 1 2 rmoveto, and no endchar; and a font with that as its first glyph */
     static const uint8_t unfinished[] = {0x8C, 0x8D, 0x15};
     static const uint8_t unfinished_font[] = {0x00, 0x02, 0x01, 0x01, 0x04, 0x05, 0x8C, 0x8D, 0x15, 0x0E};
+    /* 100, that call and endchar: 100 is one operand more than rmoveto takes; and 1.5, a Fixed, before endchar */
+    static const uint8_t wide[] = {0xEF, 0x20, 0x0A, 0x0E};
+    static const uint8_t narrow[] = {0xFF, 0x00, 0x01, 0x80, 0x00, 0x0E};
     show(IGHZAMREL_PLAIN, charstring, sizeof charstring, locals, sizeof locals);
     show(IGHZAMREL_PLAIN, charstring, sizeof charstring, no_list, sizeof no_list);
     show(IGHZAMREL_PLAIN, charstring, sizeof charstring, damaged, sizeof damaged);
@@ -151,5 +166,7 @@ int main(void)
     show(IGHZAMREL_PLAIN, unfinished, sizeof unfinished, no_list, sizeof no_list);
     show(IGHZAMREL_STRICT, unfinished, sizeof unfinished, no_list, sizeof no_list);
     show_font(IGHZAMREL_STRICT, unfinished_font, sizeof unfinished_font, no_list, sizeof no_list);
+    show(IGHZAMREL_PLAIN, wide, sizeof wide, locals, sizeof locals);
+    show(IGHZAMREL_PLAIN, narrow, sizeof narrow, no_list, sizeof no_list);
     return 0;
 }

@@ -26,13 +26,15 @@ enum { UNTOUCHED = 77, BLANK = 0xA5, ROOM = 32 };
 
 static uint8_t out[ROOM];
 static size_t length;
-static uint32_t glyph, tokens, entry, reason;
+static uint32_t glyph, tokens, entry, reason, width_kind;
+static int32_t width;
 
 static void clear(void)
 {
     memset(out, BLANK, sizeof out);
     length = UNTOUCHED;
-    glyph = tokens = entry = reason = UNTOUCHED;
+    glyph = tokens = entry = reason = width_kind = UNTOUCHED;
+    width = UNTOUCHED;
 }
 
 /* Whether out starts with these bytes, and is blank behind them. */
@@ -198,8 +200,9 @@ static void flattened(const uint8_t *charstring, size_t n, const uint8_t *global
     ighzamrel_flattening result;
     clear();
     EXPECT(ighzamrel_flatten(charstring, n, globals, globals_len, locals, locals_len, limits[0], limits[1], out, limits[2], &length,
-                             &tokens, &entry, &reason) == must->answer);
+                             &tokens, &entry, &reason, &width_kind, &width) == must->answer);
     EXPECT(length == must->length && tokens == must->tokens && entry == must->entry && reason == must->reason);
+    EXPECT(width_kind == must->width_kind && width == must->width);
     EXPECT(flat == NULL ? blank() : holds(flat, length));
     clear();
     memset(&result, BLANK, sizeof result);
@@ -207,10 +210,11 @@ static void flattened(const uint8_t *charstring, size_t n, const uint8_t *global
                                   &result) == must->answer);
     EXPECT(result.answer == must->answer && result.length == given(must->length) && result.tokens == given(must->tokens));
     EXPECT(result.entry == given(must->entry) && result.reason == given(must->reason));
+    EXPECT(result.width_kind == given(must->width_kind) && result.width == (must->width == UNTOUCHED ? 0 : must->width));
     EXPECT(flat == NULL ? blank() : holds(flat, result.length));
 }
 
-/* A flattening by this local list, with what it must answer; `flat` is NULL where it is refused. */
+/* A flattening by this local list, with what it must answer; `flat` is NULL where it is refused. It says no width. */
 struct row {
     const uint8_t *charstring;
     size_t charstring_len;
@@ -228,7 +232,8 @@ static void rows_hold(const struct row *rows, size_t n)
     size_t i;
     for (i = 0; i < n; i++) {
         const struct row *r = &rows[i];
-        const ighzamrel_flattening must = {r->answer, r->length, r->tokens, UNTOUCHED, UNTOUCHED};
+        const uint32_t kind = r->answer == IGHZAMREL_ACCEPTED ? IGHZAMREL_NO_WIDTH : UNTOUCHED;
+        const ighzamrel_flattening must = {r->answer, r->length, r->tokens, UNTOUCHED, UNTOUCHED, kind, UNTOUCHED};
         flattened(r->charstring, r->charstring_len, EMPTY, sizeof EMPTY, r->locals, r->locals_len, r->limits, &must, r->flat);
     }
 }
@@ -240,7 +245,6 @@ static void flattening(void)
     static const uint8_t called[] = {0x8C, 0x8D, 0x15, 0x0E};
     static const uint8_t fixed[] = {0xFF, 0xFF, 0x95, 0x00, 0x00, 0x0A, 0x0E};
     static const uint8_t pair[] = {0x8C, 0x16, 0x0E};
-    static const uint8_t short_form[] = {0x90, 0x0E};
     static const uint8_t masked[] = {0x8B, 0x8C, 0x01, 0x8B, 0x8C, 0x13, 0x80, 0x0E};
     const struct row rows[] = {
         {NONE, EMPTY, 2, {0, 0, ROOM}, 0, 0, 0, called},
@@ -251,7 +255,6 @@ static void flattening(void)
         {fixed, sizeof fixed, L, 9, {0, 1000, ROOM}, 0, 4, 7, called},
         {fixed, sizeof fixed, L, 9, {1, 1000, ROOM}, 0, 4, 7, called},
         {BYTES(0xFF, 0x00, 0xFF, 0x00, 0x01, 0x0A), L, 9, {0, 1000, ROOM}, 7, UNTOUCHED, 2, NULL},
-        {BYTES(0x1C, 0x00, 0x05, 0x0E), EMPTY, 2, {0, 1000, ROOM}, 0, 2, 2, short_form},
         {BYTES(0x21, 0x20, 0x0A, 0x0E), twice, 9, {0, 1000, ROOM}, 0, 3, 7, pair},
         {masked, sizeof masked, EMPTY, 2, {0, 1000, ROOM}, 0, 8, 7, masked},
         {BYTES(0x8B, 0x8B, 0x8B, 0x8B, 0x0E), EMPTY, 2, {0, 1000, ROOM}, 12, UNTOUCHED, 5, NULL},
@@ -263,6 +266,59 @@ static void flattening(void)
         {BYTES(0x20, 0x0A, 0x0E), EMPTY, 2, {0, 1000, ROOM}, 9, UNTOUCHED, 2, NULL},
     };
     rows_hold(rows, sizeof rows / sizeof rows[0]);
+}
+
+/* A charstring with its local list, the tokens, its flat string, and the width that it says. */
+struct width_row {
+    const uint8_t *charstring;
+    size_t charstring_len;
+    const uint8_t *locals;
+    size_t locals_len;
+    uint32_t tokens;
+    const uint8_t *flat;
+    size_t length;
+    uint32_t kind;
+    int32_t width;
+};
+
+/* Into just the room, within just the budget; and a refusal for want of either says no width. */
+static void width_holds(const struct width_row *r)
+{
+    const uint32_t enough[] = {0, r->tokens, (uint32_t)r->length}, no_room[] = {0, r->tokens, 0}, no_budget[] = {0, 0, ROOM};
+    const ighzamrel_flattening said = {IGHZAMREL_ACCEPTED, r->length, r->tokens, UNTOUCHED, UNTOUCHED, r->kind, r->width};
+    const ighzamrel_flattening too_long = {IGHZAMREL_SHORT, r->length, r->tokens, UNTOUCHED, UNTOUCHED, UNTOUCHED, UNTOUCHED};
+    const ighzamrel_flattening spent = {IGHZAMREL_BUDGET_SPENT, UNTOUCHED, 0, UNTOUCHED, UNTOUCHED, UNTOUCHED, UNTOUCHED};
+    flattened(r->charstring, r->charstring_len, EMPTY, sizeof EMPTY, r->locals, r->locals_len, enough, &said, r->flat);
+    flattened(r->charstring, r->charstring_len, EMPTY, sizeof EMPTY, r->locals, r->locals_len, no_room, &too_long, NULL);
+    flattened(r->charstring, r->charstring_len, EMPTY, sizeof EMPTY, r->locals, r->locals_len, no_budget, &spent, NULL);
+}
+
+/* The width by each operator that may have one, and by others; of an integer, a Fixed, and an operand that a subroutine leaves. */
+static void widths(void)
+{
+    enum { INTEGER = IGHZAMREL_INTEGER, FIXED = IGHZAMREL_FIXED, NO_WIDTH = IGHZAMREL_NO_WIDTH };
+    /* two entries: 1 2 rmoveto, and -5 */
+    static const uint8_t entries[] = {0x00, 0x02, 0x01, 0x01, 0x05, 0x07, 0x8C, 0x8D, 0x15, 0x0B, 0x86, 0x0B};
+    const struct width_row rows[] = {
+        {BYTES(0x1C, 0x00, 0x05, 0x0E), EMPTY, 2, 2, BYTES(0x90, 0x0E), INTEGER, 5},
+        {BYTES(0x0E), EMPTY, 2, 1, BYTES(0x0E), NO_WIDTH, UNTOUCHED},
+        {BYTES(0x8C), EMPTY, 2, 1, BYTES(0x8C), NO_WIDTH, UNTOUCHED},
+        {BYTES(0xFF, 0xFF, 0xFE, 0x80, 0x00, 0x0E), EMPTY, 2, 2, BYTES(0xFF, 0xFF, 0xFE, 0x80, 0x00, 0x0E), FIXED, -98304},
+        {BYTES(0x8C, 0x8D, 0x8E, 0x01, 0x0E), EMPTY, 2, 5, BYTES(0x8C, 0x8D, 0x8E, 0x01, 0x0E), INTEGER, 1},
+        {BYTES(0x8C, 0x8D, 0x01, 0x8E, 0x0E), EMPTY, 2, 5, BYTES(0x8C, 0x8D, 0x01, 0x8E, 0x0E), NO_WIDTH, UNTOUCHED},
+        {BYTES(0x8C, 0x8D, 0x8E, 0x13, 0x80, 0x0E), EMPTY, 2, 5, BYTES(0x8C, 0x8D, 0x8E, 0x13, 0x80, 0x0E), INTEGER, 1},
+        {BYTES(0x13, 0x8C, 0x0E), EMPTY, 2, 3, BYTES(0x13, 0x8C, 0x0E), NO_WIDTH, UNTOUCHED},
+        {BYTES(0x8C, 0x8D, 0x15, 0x8C, 0x0E), EMPTY, 2, 5, BYTES(0x8C, 0x8D, 0x15, 0x8C, 0x0E), NO_WIDTH, UNTOUCHED},
+        {BYTES(0x8C, 0x8D, 0x8E, 0x8F, 0x15), EMPTY, 2, 5, BYTES(0x8C, 0x8D, 0x8E, 0x8F, 0x15), INTEGER, 1},
+        {BYTES(0x8C, 0x8D, 0x16), EMPTY, 2, 3, BYTES(0x8C, 0x8D, 0x16), INTEGER, 1},
+        {BYTES(0x8C, 0x8D, 0x04), EMPTY, 2, 3, BYTES(0x8C, 0x8D, 0x04), INTEGER, 1},
+        {BYTES(0x8B, 0x05, 0x8C, 0x0E), EMPTY, 2, 4, BYTES(0x8B, 0x05, 0x8C, 0x0E), NO_WIDTH, UNTOUCHED},
+        {BYTES(0x8D, 0x20, 0x0A, 0x0E), entries, sizeof entries, 8, BYTES(0x8D, 0x8C, 0x8D, 0x15, 0x0E), INTEGER, 2},
+        {BYTES(0x21, 0x0A, 0x20, 0x0A, 0x0E), entries, sizeof entries, 11, BYTES(0x86, 0x8C, 0x8D, 0x15, 0x0E), INTEGER, -5},
+    };
+    size_t i;
+    for (i = 0; i < sizeof rows / sizeof rows[0]; i++)
+        width_holds(&rows[i]);
 }
 
 /* An operand that waits at a second mask: plain leaves it there, and strict refuses it with 15, after 3 and before 4, and sets no place. */
@@ -430,8 +486,8 @@ static void bad_list(const uint8_t *list, size_t n, uint32_t why, uint32_t bad)
 {
     static const uint32_t limits[] = {IGHZAMREL_PLAIN, 0, ROOM};
     static const uint8_t charstring[] = {0x0E};
-    const ighzamrel_flattening globals = {IGHZAMREL_BAD_GLOBALS, UNTOUCHED, UNTOUCHED, bad, why};
-    const ighzamrel_flattening locals = {IGHZAMREL_BAD_LOCALS, UNTOUCHED, UNTOUCHED, bad, why};
+    const ighzamrel_flattening globals = {IGHZAMREL_BAD_GLOBALS, UNTOUCHED, UNTOUCHED, bad, why, UNTOUCHED, UNTOUCHED};
+    const ighzamrel_flattening locals = {IGHZAMREL_BAD_LOCALS, UNTOUCHED, UNTOUCHED, bad, why, UNTOUCHED, UNTOUCHED};
     list_checked(list, n, why, UNTOUCHED, bad);
     flattened(charstring, 1, list, n, EMPTY, 1, limits, &globals, NULL);
     flattened(charstring, 1, L, sizeof L, list, n, limits, &locals, NULL);
@@ -461,6 +517,7 @@ int main(void)
     call_indexes();
     indexes();
     flattening();
+    widths();
     masks();
     ends();
     fonts();

@@ -22,8 +22,8 @@ static uint32_t answer;
 
 static uint8_t charstring[64], locals[4096], charstrings[64 * MOST_GLYPHS], out[ROOM];
 static size_t charstring_len, locals_len, charstrings_len, place, length;
-static uint32_t kind, glyph, tokens, entry, reason;
-static int32_t value;
+static uint32_t kind, glyph, tokens, entry, reason, width_kind;
+static int32_t value, width;
 static const uint8_t globals[] = {0, 0};
 static const uint32_t lengths[] = {3, 4};
 
@@ -92,7 +92,7 @@ static void font(int glyphs)
 static void flatten(uint32_t profile)
 {
     answer = ighzamrel_flatten(charstring, charstring_len, globals, sizeof globals, locals, locals_len, profile, 1000000,
-                               out, ROOM, &length, &tokens, &entry, &reason);
+                               out, ROOM, &length, &tokens, &entry, &reason, &width_kind, &width);
 }
 
 static void flatten_plain(void) { flatten(IGHZAMREL_PLAIN); }
