@@ -86,6 +86,8 @@ pub mod c {
             tokens: *mut u32,
             entry: *mut u32,
             reason: *mut u32,
+            width_kind: *mut u32,
+            width: *mut i32,
         ) -> u32;
 
         pub fn ighzamrel_flatten_font(
@@ -198,7 +200,7 @@ pub fn write_index(lengths: &[u32], data: &[u8], out: &mut [u8]) -> (u32, usize)
     (answer, length)
 }
 
-/// The places of a flattening; `glyph` is one of a whole font's alone.
+/// The places of a flattening; `glyph` is one of a whole font's alone, and the width one of a charstring's.
 #[derive(Default)]
 pub struct Places {
     pub length: usize,
@@ -206,7 +208,12 @@ pub struct Places {
     pub tokens: u32,
     pub entry: u32,
     pub reason: u32,
+    pub width_kind: u32,
+    pub width: i32,
 }
+
+/// The `width_kind` of a charstring that says no width.
+pub const NO_WIDTH: u32 = 2;
 
 /// The answer; a place that it does not give is left as it was.
 pub fn flatten_to(
@@ -232,6 +239,8 @@ pub fn flatten_to(
             &mut places.tokens,
             &mut places.entry,
             &mut places.reason,
+            &mut places.width_kind,
+            &mut places.width,
         )
     }
 }

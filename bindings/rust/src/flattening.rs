@@ -2,7 +2,7 @@
 
 use crate::ffi;
 use crate::refusal::{told_with, Offered, Refused};
-use crate::Profile;
+use crate::{Operand, Profile};
 
 /// An accepted charstring whose flat string was written to lent bytes.
 #[derive(Clone, Copy, Debug, PartialEq, Eq)]
@@ -11,6 +11,8 @@ pub struct Flat {
     pub length: usize,
     /// How many tokens were run, through every call.
     pub tokens: u32,
+    /// The width that the charstring says, if any, as [`flatten`] tells.
+    pub width: Option<Operand>,
 }
 
 /// An accepted charstring with its flat string.
@@ -20,6 +22,8 @@ pub struct FlatVec {
     pub bytes: Vec<u8>,
     /// How many tokens were run, through every call.
     pub tokens: u32,
+    /// The width that the charstring says, if any, as [`flatten`] tells.
+    pub width: Option<Operand>,
 }
 
 /// Writes the flat string of a charstring to the start of `out`.
@@ -27,6 +31,24 @@ pub struct FlatVec {
 /// `globals` and `locals` are the two subroutine INDEXes, [`EMPTY_INDEX`](crate::EMPTY_INDEX) where a font has none;
 /// `budget` is how many tokens may be run, through every call, and so bounds the time.
 /// A refusal changes no byte of `out`, and acceptance only the first `length`.
+///
+/// The width is the bottom operand at the first operator that is no call and no return: of an odd count at a stem or a
+/// mask, of more than two at `rmoveto`, of more than one at `hmoveto` or `vmoveto`, and of any at `endchar`; else there
+/// is none. Added to nominalWidthX of the glyph's Private DICT it is the advance width, which is defaultWidthX where
+/// there is none:
+///
+/// ```
+/// use ighzamrel::{flatten, Operand, Profile, EMPTY_INDEX};
+/// let width = |charstring: &[u8]| {
+///     let flat = flatten(charstring, EMPTY_INDEX, EMPTY_INDEX, Profile::Plain, 100, &mut [0; 8]);
+///     flat.map(|flat| flat.width)
+/// };
+/// // 100 1 2 rmoveto endchar, 1 2 rmoveto endchar, and 1.5 endchar
+/// assert_eq!(width(&[0xEF, 0x8C, 0x8D, 0x15, 0x0E])?, Some(Operand::Integer(100)));
+/// assert_eq!(width(&[0x8C, 0x8D, 0x15, 0x0E])?, None);
+/// assert_eq!(width(&[0xFF, 0x00, 0x01, 0x80, 0x00, 0x0E])?, Some(Operand::Fixed(98_304)));
+/// # Ok::<(), ighzamrel::Refused>(())
+/// ```
 ///
 /// Refused with one of [`Refusal::BadGlobals`](crate::Refusal::BadGlobals) to
 /// [`Refusal::Short`](crate::Refusal::Short), or in strict with
@@ -56,11 +78,23 @@ pub fn flatten(
     let mut places = ffi::Places::default();
     let lent = [charstring, globals, locals];
     let answer = ffi::flatten_to(lent, profile.number(), budget, out, &mut places);
-    let (length, tokens) = (places.length, places.tokens);
-    told_with(answer, Flat { length, tokens }, offered(&places))
+    let flat = Flat {
+        length: places.length,
+        tokens: places.tokens,
+        width: width(&places),
+    };
+    told_with(answer, flat, offered(&places))
 }
 
-/// What a flattening has in its places, but the glyph.
+/// The width that an accepted charstring says.
+fn width(places: &ffi::Places) -> Option<Operand> {
+    match places.width_kind {
+        ffi::NO_WIDTH => None,
+        kind => Some(Operand::of(kind, places.width)),
+    }
+}
+
+/// What a flattening has in its places for a refusal, but the glyph.
 pub(crate) fn offered(places: &ffi::Places) -> Offered {
     Offered {
         length: Some(places.length),
@@ -86,10 +120,14 @@ pub fn flatten_to_vec(
 ) -> Result<FlatVec, Refused> {
     let run = |out: &mut [u8]| {
         let flat = flatten(charstring, globals, locals, profile, budget, out)?;
-        Ok((flat.length, flat.tokens))
+        Ok((flat.length, (flat.tokens, flat.width)))
     };
-    let (bytes, tokens) = in_vec(0, room, run)?;
-    Ok(FlatVec { bytes, tokens })
+    let (bytes, (tokens, width)) = in_vec(0, room, run)?;
+    Ok(FlatVec {
+        bytes,
+        tokens,
+        width,
+    })
 }
 
 /// What `run` writes to bytes of its own, and what it tells besides their length. It is run with the `first` room, and

@@ -16,6 +16,7 @@
 //! let flat = flatten_to_vec(&charstring, EMPTY_INDEX, &locals, Profile::Plain, budget, room)?;
 //! assert_eq!(flat.bytes, [0x8C, 0x8D, 0x15, 0x0E]);
 //! assert_eq!(flat.tokens, 7);
+//! assert_eq!(flat.width, None);
 //!
 //! let refused = flatten_to_vec(&charstring, EMPTY_INDEX, EMPTY_INDEX, Profile::Plain, budget, room).unwrap_err();
 //! assert_eq!(refused.refusal, Refusal::NoEntry);

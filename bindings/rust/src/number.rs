@@ -14,6 +14,14 @@ pub enum Operand {
 }
 
 impl Operand {
+    /// By kind and value, as the library gives them.
+    pub(crate) fn of(kind: u32, value: i32) -> Operand {
+        match kind {
+            0 => Operand::Integer(value),
+            _ => Operand::Fixed(value),
+        }
+    }
+
     /// Kind and value, as the library takes them.
     fn parts(self) -> (u32, i32) {
         match self {
@@ -43,10 +51,7 @@ pub struct NumberRead<T> {
 /// ```
 pub fn read_charstring_number(bytes: &[u8]) -> Result<NumberRead<Operand>, Refusal> {
     let (answer, kind, value, width) = ffi::read_charstring_number(bytes);
-    let number = match kind {
-        0 => Operand::Integer(value),
-        _ => Operand::Fixed(value),
-    };
+    let number = Operand::of(kind, value);
     told(answer, NumberRead { number, width })
 }
 

@@ -15,46 +15,66 @@ fn run(refusal: Refusal, tokens: u32) -> Refused {
     }
 }
 
+/// What a charstring gives that says no width.
+fn without_width(flat: &[u8], tokens: u32) -> FlatVec {
+    FlatVec {
+        bytes: flat.to_vec(),
+        tokens,
+        width: None,
+    }
+}
+
 pub type Bytes = &'static [u8];
 
-/// Each charstring with its local list, the flat string and the tokens.
-pub const ACCEPTED: [(Bytes, Bytes, Bytes, u32); 11] = [
-    (&[], EMPTY_INDEX, &[], 0),
-    (&[0x20, 0x0A, 0x0E], L, &[0x8C, 0x8D, 0x15, 0x0E], 7),
+/// Each charstring with its local list, the flat string, the tokens and the width.
+pub const ACCEPTED: [(Bytes, Bytes, Bytes, u32, Option<Operand>); 11] = [
+    (&[], EMPTY_INDEX, &[], 0, None),
+    (&[0x20, 0x0A, 0x0E], L, &[0x8C, 0x8D, 0x15, 0x0E], 7, None),
     (
         &[0xFF, 0xFF, 0x95, 0x00, 0x00, 0x0A, 0x0E],
         L,
         &[0x8C, 0x8D, 0x15, 0x0E],
         7,
+        None,
     ),
-    (&[0x1C, 0x00, 0x05, 0x0E], EMPTY_INDEX, &[0x90, 0x0E], 2),
-    (&[0x0B, 0x00], EMPTY_INDEX, &[], 1),
+    (
+        &[0x1C, 0x00, 0x05, 0x0E],
+        EMPTY_INDEX,
+        &[0x90, 0x0E],
+        2,
+        Some(Operand::Integer(5)),
+    ),
+    (&[0x0B, 0x00], EMPTY_INDEX, &[], 1, None),
     (
         &[0x21, 0x20, 0x0A, 0x0E],
         &[0x00, 0x02, 0x01, 0x01, 0x02, 0x04, 0x0A, 0x8C, 0x16],
         &[0x8C, 0x16, 0x0E],
         7,
+        None,
     ),
     (
         &[0x20, 0x0A, 0x00],
         &[0x00, 0x01, 0x01, 0x01, 0x02, 0x0E],
         &[0x0E],
         3,
+        None,
     ),
     (
         &[0x8B, 0x8C, 0x01, 0x8B, 0x8C, 0x13, 0x80, 0x0E],
         EMPTY_INDEX,
         &[0x8B, 0x8C, 0x01, 0x8B, 0x8C, 0x13, 0x80, 0x0E],
         7,
+        None,
     ),
-    (&[0x13, 0x0E], EMPTY_INDEX, &[0x13, 0x0E], 2),
+    (&[0x13, 0x0E], EMPTY_INDEX, &[0x13, 0x0E], 2, None),
     (
         &[0x8B, 0x8B, 0x8B, 0x0E],
         EMPTY_INDEX,
         &[0x8B, 0x8B, 0x8B, 0x0E],
         4,
+        Some(Operand::Integer(0)),
     ),
-    (&[0x20, 0x0A], L, &[0x8C, 0x8D, 0x15], 6),
+    (&[0x20, 0x0A], L, &[0x8C, 0x8D, 0x15], 6, None),
 ];
 
 /// Each charstring with its local list, the refusal and the tokens.
@@ -86,29 +106,33 @@ pub const REFUSED: [(Bytes, Bytes, Refusal, u32); 8] = [
 
 #[test]
 fn accepted_rows_change_only_their_bytes() {
-    for (charstring, locals, flat, tokens) in ACCEPTED {
+    for (charstring, locals, flat, tokens, width) in ACCEPTED {
         let length = flat.len();
+        let told = Flat {
+            length,
+            tokens,
+            width,
+        };
         for room in [ROOM, length] {
             let answer = lent(room, |out| {
                 flatten(charstring, EMPTY_INDEX, locals, Plain, AMPLE, out)
             });
             let mut bytes = vec![BLANK; room];
             bytes[..length].copy_from_slice(flat);
-            assert_eq!(
-                answer,
-                (Ok(Flat { length, tokens }), bytes),
-                "{charstring:02X?}"
-            );
+            assert_eq!(answer, (Ok(told), bytes), "{charstring:02X?}");
         }
-        let bytes = flat.to_vec();
         let answer = flatten_to_vec(charstring, EMPTY_INDEX, locals, Plain, tokens, length);
-        assert_eq!(answer, Ok(FlatVec { bytes, tokens }), "{charstring:02X?}");
+        let told = FlatVec {
+            width,
+            ..without_width(flat, tokens)
+        };
+        assert_eq!(answer, Ok(told), "{charstring:02X?}");
     }
 }
 
 #[test]
 fn accepted_rows_without_room_give_their_length_and_tokens() {
-    for (charstring, locals, flat, tokens) in ACCEPTED {
+    for (charstring, locals, flat, tokens, _) in ACCEPTED {
         let refused = Refused {
             needed: Some(flat.len()),
             ..run(Refusal::Short, tokens)
@@ -135,7 +159,7 @@ fn both_refuse(charstring: &[u8], locals: &[u8], profile: Profile, room: usize, 
 
 #[test]
 fn rows_without_budget_are_refused_with_it() {
-    let accepted = ACCEPTED.map(|(charstring, locals, _, tokens)| (charstring, locals, tokens));
+    let accepted = ACCEPTED.map(|(charstring, locals, _, tokens, _)| (charstring, locals, tokens));
     let refused = REFUSED.map(|(charstring, locals, _, tokens)| (charstring, locals, tokens));
     for (charstring, locals, tokens) in accepted.into_iter().chain(refused) {
         for budget in 0..tokens {
@@ -173,8 +197,7 @@ fn a_damaged_list_is_refused_before_anything_runs() {
 #[test]
 fn global_and_local_lists_are_not_swapped() {
     let called = |call| flatten_to_vec(&[0x20, call], L, EMPTY_INDEX, Plain, AMPLE, ROOM);
-    let bytes = vec![0x8C, 0x8D, 0x15];
-    assert_eq!(called(0x1D), Ok(FlatVec { bytes, tokens: 6 }));
+    assert_eq!(called(0x1D), Ok(without_width(&[0x8C, 0x8D, 0x15], 6)));
     assert_eq!(called(0x0A), Err(run(Refusal::NoEntry, 2)));
 }
 
@@ -247,8 +270,11 @@ fn operands_at_a_mask_that_fixes_the_length_are_stems() {
     ];
     for charstring in rows {
         let answer = flatten_to_vec(charstring, EMPTY_INDEX, EMPTY_INDEX, Strict, AMPLE, ROOM);
-        let (bytes, tokens) = (charstring.to_vec(), 5);
-        assert_eq!(answer, Ok(FlatVec { bytes, tokens }), "{charstring:02X?}");
+        assert_eq!(
+            answer,
+            Ok(without_width(charstring, 5)),
+            "{charstring:02X?}"
+        );
     }
 }
 
@@ -316,9 +342,8 @@ fn any_endchar_is_an_end() {
         (&[0x22, 0x0A, 0x0E], &[0x8C, 0x16, 0x0E], 5),
     ];
     for (charstring, flat, tokens) in rows {
-        let bytes = flat.to_vec();
         let answer = flatten_to_vec(charstring, EMPTY_INDEX, &locals, Strict, tokens, ROOM);
-        assert_eq!(answer, Ok(FlatVec { bytes, tokens }), "{charstring:02X?}");
+        assert_eq!(answer, Ok(without_width(flat, tokens)), "{charstring:02X?}");
     }
 }
 

@@ -147,3 +147,11 @@ fn declarations_are_the_headers() {
     }
     assert_eq!(functions, DECLARATIONS.matches("pub fn ighzamrel_").count());
 }
+
+#[test]
+fn the_kind_of_no_width_is_the_headers() {
+    let (_, rest) = HEADER.split_once("IGHZAMREL_NO_WIDTH = ").unwrap();
+    let number: String = rest.chars().take_while(char::is_ascii_digit).collect();
+    let ours = format!("pub const NO_WIDTH: u32 = {number};");
+    assert!(DECLARATIONS.contains(&ours), "src/ffi.rs lacks `{ours}`");
+}

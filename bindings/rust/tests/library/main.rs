@@ -6,6 +6,7 @@ mod header;
 mod indexes;
 mod numbers;
 mod whole;
+mod width;
 
 use ighzamrel::{write_index, Refusal, Refused};
 

@@ -59,7 +59,7 @@ fn a_font_without_glyphs_is_the_empty_index() {
 
 #[test]
 fn each_glyph_is_as_by_itself() {
-    for (charstring, locals, flat, tokens) in ACCEPTED {
+    for (charstring, locals, flat, tokens, _) in ACCEPTED {
         let glyphs = index(&[&[0x0E], charstring, charstring]);
         let answer = flatten_font_to_vec(&glyphs, EMPTY_INDEX, locals, Plain, tokens.max(1), ROOM);
         assert_eq!(
