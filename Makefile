@@ -17,7 +17,7 @@ run: kit
 	@echo 'make run: proves and builds the program flatten, which takes some minutes the first time, and then runs it on three font parts.'
 	@rt check flatten
 	@echo
-	@echo 'examples/squares.part, a glyph that calls one subroutine twice: 0, the length and the tokens run; then its flat string.'
+	@echo 'examples/squares.part, a glyph that calls one subroutine twice: 0, the length, the tokens run and the width, - for none; then its flat string.'
 	@tools/run flatten examples/squares.part
 	@echo
 	@echo 'examples/font.part, a whole font of three such glyphs: 0 and the length; then the INDEX of their flat strings.'
