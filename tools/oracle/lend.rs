@@ -3,7 +3,7 @@
 //! and each place hold a pattern. After every call all of it is looked at.
 
 use crate::operation::{
-    library, Argument, Call, Fault, Found, Lent, Operation, Outcome, Place, Side, PLACES,
+    library, Argument, Call, Fault, Found, Lent, Operation, Outcome, Place, Side, NO_WIDTH, PLACES,
 };
 use std::borrow::Cow;
 use std::ffi::c_void;
@@ -141,6 +141,15 @@ impl Lender {
     }
 }
 
+/// The places that were set; a width is one where its kind says that there is one, for it may be just what the place held.
+fn changed(operation: &Operation, places: &[u64; PLACES]) -> u8 {
+    let changed = (0..PLACES).filter(|&i| places[i] != UNSET).map(|i| 1 << i).sum();
+    match operation.width {
+        Some((kind, width)) if (places[kind] as u32) < NO_WIDTH as u32 => changed | 1 << width,
+        _ => changed,
+    }
+}
+
 /// The values and the bytes that the answer gives; no other place may have changed, and no bit that a type does not reach.
 fn outcome(
     call: &Call,
@@ -152,8 +161,7 @@ fn outcome(
     if operation.given(answer, 0).is_none() {
         return Err(format!("  {answer} is none of the operation's answers\n"));
     }
-    let changed = (0..PLACES).filter(|&i| places[i] != UNSET).map(|i| 1 << i).sum();
-    let given = operation.given(answer, changed).unwrap_or(0);
+    let given = operation.given(answer, changed(operation, places)).unwrap_or(0);
     let mut outcome = Outcome::refused(answer);
     for (i, &came) in places.iter().enumerate() {
         let place = operation.places.get(i).filter(|_| given >> i & 1 == 1);

@@ -7,7 +7,7 @@ use std::borrow::Cow;
 use std::collections::BTreeSet;
 
 /// The most places that a C function has.
-pub const PLACES: usize = 5;
+pub const PLACES: usize = 6;
 
 pub struct Operation {
     /// Its number in the program `cases`.
@@ -21,6 +21,8 @@ pub struct Operation {
     pub answers: &'static [(u32, u8)],
     /// The place that tells why an answer came, and all that it may tell. Answers that give it are counted by it.
     pub reasons: Option<(usize, &'static [u32])>,
+    /// The place for the kind of a width, and the one for the width, which comes where the kind is 0 or 1.
+    pub width: Option<(usize, usize)>,
     /// Where the bytes come from that an accepted call shows.
     pub found: Found,
     /// What must come: the rule's word, with which the Rust must agree where it has one.
@@ -93,6 +95,7 @@ pub const BARE: Operation = Operation {
     places: &[],
     answers: &[],
     reasons: None,
+    width: None,
     found: Found::Nothing,
     owed: |_| Err("no rule is given".into()),
     invoke: |_, _| u32::MAX,
@@ -138,6 +141,9 @@ pub enum Found {
     InSlice,
 }
 
+/// The kind of a width that there is not.
+pub const NO_WIDTH: i64 = 2;
+
 /// An answer, and the reason that it tells, if any.
 pub type Kind = (u32, Option<i64>);
 
@@ -159,6 +165,8 @@ pub enum Must<'a> {
     /// What is owed for it, and no more.
     Any,
     GiveTheSame,
+    /// The same answer and bytes, and the same at these places.
+    GiveTheSameAt(u8),
     Refuse(u32),
     /// An answer 0 with these bytes.
     Write(&'a [u8]),
@@ -310,6 +318,10 @@ impl Must<'_> {
         match self {
             Must::Any => true,
             Must::GiveTheSame => first == second,
+            Must::GiveTheSameAt(places) => {
+                let at = |i: usize| places >> i & 1 == 0 || first.values[i] == second.values[i];
+                first.answer == second.answer && first.bytes == second.bytes && (0..PLACES).all(at)
+            }
             Must::Refuse(answer) => second.answer == *answer,
             Must::Write(bytes) => second.answer == 0 && second.bytes == *bytes,
             Must::Tell(values) => {

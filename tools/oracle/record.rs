@@ -1,6 +1,6 @@
 //! A call as the program `cases` has it: a record, and the line that is owed for it.
 
-use crate::operation::{Argument, Call, Operation, Outcome};
+use crate::operation::{Argument, Call, Operation, Outcome, PLACES};
 
 /// The most bytes that a record may have, and the most room that it may ask for.
 pub const MOST: usize = 1_048_576;
@@ -68,11 +68,27 @@ impl Outcome {
     /// What `cases` prints: the answer, the values that it gives, and the bytes of an accepted call that has some.
     pub fn line(&self, operation: &Operation) -> String {
         let mut line = self.answer.to_string();
-        self.values.iter().flatten().for_each(|value| line += &format!(" {value}"));
+        let (kind, width) = operation.width.unwrap_or((PLACES, PLACES));
+        for (place, value) in self.values.iter().enumerate() {
+            line += &match value {
+                Some(value) if place == kind => format!(" {}", said(*value, self.values[width])),
+                Some(value) if place != width => format!(" {value}"),
+                _ => continue,
+            };
+        }
         if self.answer == 0 && operation.shows() {
             line += &format!(" {}", hex(&self.bytes));
         }
         line
+    }
+}
+
+/// A width, by its kind and its value.
+fn said(kind: i64, value: Option<i64>) -> String {
+    match (kind, value) {
+        (0, Some(value)) => value.to_string(),
+        (1, Some(value)) => format!("{value}/65536"),
+        _ => "-".into(),
     }
 }
 

@@ -1,7 +1,7 @@
 //! How often each operation gave each answer, for each reason that it tells, and what the accepted charstrings had in them.
 
-use crate::operation::{Call, Kind, Operation, Outcome, Owed};
-use crate::operations::OPERATIONS;
+use crate::operation::{Call, Kind, Operation, Outcome, Owed, NO_WIDTH};
+use crate::operations::{flatten, OPERATIONS};
 use std::collections::BTreeMap;
 
 #[derive(Default)]
@@ -16,6 +16,9 @@ pub struct Tally {
     fixed: u64,
     nearly: u64,
     masked: u64,
+    /// With a width, by its kind, and without; and of the widths, those that an operator of an entry settled.
+    widths: [u64; 3],
+    inner_widths: u64,
     /// Calls that those followed, and how deep.
     followed: u64,
     deepest: u32,
@@ -35,6 +38,11 @@ impl Tally {
             self.followed += met.calls;
             self.deepest = self.deepest.max(met.deepest);
         }
+        if let (0, Some(met), Some((kind, _))) = (outcome.answer, owed.met, call.operation.width) {
+            let kind = outcome.values[kind].unwrap_or(NO_WIDTH) as usize;
+            self.widths[kind] += 1;
+            self.inner_widths += u64::from(met.inner_width);
+        }
     }
 
     pub fn call(&mut self, call: &Call, outcome: &Outcome, owed: &Owed) {
@@ -51,6 +59,8 @@ impl Tally {
         self.fixed += other.fixed;
         self.nearly += other.nearly;
         self.masked += other.masked;
+        self.widths.iter_mut().zip(other.widths).for_each(|(ours, theirs)| *ours += theirs);
+        self.inner_widths += other.inner_widths;
         self.followed += other.followed;
         self.deepest = self.deepest.max(other.deepest);
     }
@@ -74,6 +84,12 @@ impl Tally {
                 "  charstrings with a flat string: {} with calls ({} calls, down to depth {}), {} with Fixed \
                  indexes, {} with nearly whole ones, {} with masks",
                 self.called, self.followed, self.deepest, self.fixed, self.nearly, self.masked
+            );
+            let [integer, fixed, none] = self.widths;
+            println!(
+                "  accepted charstrings: {integer} with an integer width, {fixed} with a Fixed one, {none} with none; \
+                 {} widths by an operator of a subroutine",
+                self.inner_widths
             );
         }
         println!(
@@ -100,7 +116,20 @@ impl Tally {
                 "no flat string had a call, a mask, a Fixed index, or a nearly whole one".into(),
             );
         }
+        lacks.extend(self.lacking_widths(least(&flatten::OPERATION)));
         lacks
+    }
+
+    fn lacking_widths(&self, least: u64) -> Vec<String> {
+        let [integer, fixed, none] = self.widths;
+        let rows = [
+            (integer, "an integer width"),
+            (fixed, "a Fixed width"),
+            (none, "no width"),
+            (self.inner_widths, "a width by an operator of a subroutine"),
+        ];
+        let few = rows.into_iter().filter(|(came, _)| *came < least);
+        few.map(|(came, kind)| format!("only {came} accepted charstrings had {kind}")).collect()
     }
 }
 

@@ -1,6 +1,6 @@
 //! Flattening: 8. The Rust has a word in the plain profile, where both lists are well formed and the answer is not 3, 8 or 11:
 //! the bytes of an accepted one, `CFFError` for 4, 5, 6, 7, 9 and 10, and `Unimplemented` for 12. It is asked once the rule's
-//! run has ended, so that it ends too. Tokens, room, and what is wrong with a list are the rule's alone.
+//! run has ended, so that it ends too. Tokens, the width, room, and what is wrong with a list are the rule's alone.
 
 use super::check_list::check;
 use super::write_charstring_number::rooms;
@@ -10,11 +10,12 @@ use crate::inputs::case::{Case, Given, NONE};
 use crate::inputs::{damaged, flattening, loose, structured};
 use crate::library::ighzamrel_flatten;
 use crate::operation::{library, Argument, Call, Fault, Found, Lent, Must, Next, Operation};
-use crate::operation::{Outcome, Owed, Place, BARE};
+use crate::operation::{Outcome, Owed, Place, BARE, NO_WIDTH};
 use crate::random::Random;
 use crate::record::MOST;
-use crate::rules::flattening::{Lists, Rules, Verdict, RULES};
+use crate::rules::flattening::{Lists, Rules, Verdict, Width, RULES};
 use crate::rules::index::{formed, Flaw};
+use crate::rules::number::Operand;
 use crate::kept::Kept;
 use std::borrow::Cow;
 use subsetter::Error;
@@ -22,9 +23,17 @@ use subsetter::Error;
 /// A budget beyond which no random run is followed.
 const AMPLE: u32 = 20_000;
 
+const LENGTH: u8 = 0b1;
 const TOKENS: u8 = 0b10;
 const ENTRY: u8 = 0b100;
 const REASON: u8 = 0b1000;
+const WIDTH_KIND: u8 = 1 << KIND_PLACE;
+const WIDTH: u8 = 1 << WIDTH_PLACE;
+/// What a charstring gives that says no width.
+const FLAT: u8 = LENGTH | TOKENS | WIDTH_KIND;
+
+pub const KIND_PLACE: usize = 4;
+pub const WIDTH_PLACE: usize = 5;
 
 pub static OPERATION: Operation = Operation {
     number: 8,
@@ -37,9 +46,10 @@ pub static OPERATION: Operation = Operation {
         Argument::List(1),
         Argument::List(2),
     ],
-    places: &[Place::Size, Place::U32, Place::U32, Place::U32],
+    places: &[Place::Size, Place::U32, Place::U32, Place::U32, Place::U32, Place::I32],
     answers: &[
-        (0, 0b11),
+        (0, FLAT),
+        (0, FLAT | WIDTH),
         (1, REASON),
         (1, ENTRY | REASON),
         (2, REASON),
@@ -54,11 +64,12 @@ pub static OPERATION: Operation = Operation {
         (10, TOKENS),
         (11, TOKENS),
         (12, TOKENS),
-        (13, 0b11),
+        (13, LENGTH | TOKENS),
         (15, 0),
         (16, 0),
     ],
     reasons: Some((3, &[20, 21, 40, 41, 42])),
+    width: Some((KIND_PLACE, WIDTH_PLACE)),
     found: Found::Written,
     owed,
     invoke,
@@ -136,10 +147,11 @@ fn flatten_by(lent: &Lent, profile: u32, budget: u32, room: usize) -> u32 {
     let [(cs, cs_len), (globals, globals_len), (locals, locals_len)] = lent.slices;
     let (out, length, tokens) = (lent.out, lent.place(0), lent.place(1));
     let (entry, reason) = (lent.place(2), lent.place(3));
+    let (width_kind, width) = (lent.place(KIND_PLACE), lent.place(WIDTH_PLACE));
     unsafe {
         ighzamrel_flatten(
             cs, cs_len, globals, globals_len, locals, locals_len, profile, budget, out, room, length,
-            tokens, entry, reason,
+            tokens, entry, reason, width_kind, width,
         )
     }
 }
@@ -185,14 +197,27 @@ fn owed(call: &Call) -> Result<Owed, String> {
 
 fn told(call: &Call, verdict: &Verdict) -> Outcome {
     match verdict {
-        Verdict::Flat(flat, tokens) => {
-            let fits = flat.len() <= call.room;
-            let (answer, bytes) = if fits { (0, flat.clone()) } else { (13, Vec::new()) };
-            Outcome::told(answer, [flat.len() as i64, (*tokens).into()], bytes)
+        Verdict::Flat(flat, tokens, width) => {
+            let values = [flat.len() as i64, (*tokens).into()];
+            match flat.len() <= call.room {
+                true => with_width(Outcome::told(0, values, flat.clone()), *width),
+                false => Outcome::told(13, values, Vec::new()),
+            }
         }
         Verdict::BadList(refusal, flaw) => bad_list(call.operation, (*refusal, *flaw)),
         Verdict::Stopped(refusal, tokens) => stopped(*refusal, *tokens),
     }
+}
+
+fn with_width(mut told: Outcome, width: Width) -> Outcome {
+    let (kind, value) = match width {
+        Some(Operand::Integer(value)) => (0, Some(value)),
+        Some(Operand::Fixed(value)) => (1, Some(value)),
+        None => (NO_WIDTH, None),
+    };
+    told.values[KIND_PLACE] = Some(kind);
+    told.values[WIDTH_PLACE] = value.map(i64::from);
+    told
 }
 
 /// The refusal of a run, with its tokens where it tells them.
@@ -228,7 +253,7 @@ pub fn bad_list(operation: &Operation, (refusal, flaw): (u32, Flaw)) -> Outcome 
 /// What the Rust owes for a verdict, or `None` where it has no word.
 fn by_rust(verdict: &Verdict) -> Option<Result<Vec<u8>, Error>> {
     match verdict {
-        Verdict::Flat(bytes, _) => Some(Ok(bytes.clone())),
+        Verdict::Flat(bytes, ..) => Some(Ok(bytes.clone())),
         Verdict::BadList(..) => None,
         Verdict::Stopped(refusal, _) => error(*refusal).map(Err),
     }
@@ -253,8 +278,8 @@ fn next<'a>(call: &'a Call<'a>, outcome: &'a Outcome) -> Vec<Next<'a>> {
         let budget = outcome.values[1].unwrap_or(0) as u32;
         next.push(Next {
             call: Call { budget, room: outcome.bytes.len(), slices, ..call.again() },
-            must: Must::Write(&outcome.bytes),
-            law: "the flat string does not flatten to itself in as many tokens",
+            must: Must::GiveTheSameAt(LENGTH | WIDTH_KIND | WIDTH),
+            law: "the flat string does not flatten to itself in as many tokens, or says another width",
         });
     }
     next.push(other_profile(call, outcome));
@@ -382,7 +407,7 @@ fn exchange(lent: &Lent) {
 
 fn by_last_byte(call: &Call, lent: &Lent) -> u32 {
     match verdict(call, ANY_END) {
-        Verdict::Flat(flat, _) if flat.last() == Some(&14) => tell_ruled(call, lent, ANY_END),
+        Verdict::Flat(flat, ..) if flat.last() == Some(&14) => tell_ruled(call, lent, ANY_END),
         _ => library(call, lent),
     }
 }

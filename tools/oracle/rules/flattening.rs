@@ -7,6 +7,9 @@ use super::number::{self as numbers, Operand, Place};
 /// A refusal's number.
 pub type Refusal = u32;
 
+/// The width that a charstring says, if any.
+pub type Width = Option<Operand>;
+
 /// What is to be flattened, and by which rules.
 pub struct Asked<'a> {
     pub strict: bool,
@@ -19,7 +22,8 @@ pub struct Asked<'a> {
 /// The verdict, whatever the room.
 #[derive(Clone, Debug, PartialEq, Eq)]
 pub enum Verdict {
-    Flat(Vec<u8>, u32),
+    /// The flat string, the tokens, and the width.
+    Flat(Vec<u8>, u32, Width),
     /// A list is not well formed: which, and what is wrong with it.
     BadList(Refusal, Flaw),
     /// The refusal of the run, and the tokens begun.
@@ -30,7 +34,7 @@ impl Verdict {
     /// The tokens that a run takes, and so the least budget with this verdict.
     pub fn tokens(&self) -> u32 {
         match self {
-            Verdict::Flat(_, tokens) | Verdict::Stopped(_, tokens) => *tokens,
+            Verdict::Flat(_, tokens, _) | Verdict::Stopped(_, tokens) => *tokens,
             Verdict::BadList(..) => 0,
         }
     }
@@ -38,7 +42,7 @@ impl Verdict {
     /// The least room with this verdict.
     pub fn length(&self) -> usize {
         match self {
-            Verdict::Flat(flat, _) => flat.len(),
+            Verdict::Flat(flat, ..) => flat.len(),
             _ => 0,
         }
     }
@@ -56,10 +60,11 @@ struct Item<'a> {
 /// A flat string that is not joined, so that one of any length can be told.
 pub struct Flat<'a>(Vec<Item<'a>>);
 
-/// The run's first refusal or the flat string, the tokens begun, and what the run met.
+/// The run's first refusal or the flat string, the tokens begun, the width so far, and what the run met.
 pub struct Ran<'a> {
     pub flat: Result<Flat<'a>, Refusal>,
     pub tokens: u32,
+    pub width: Width,
     pub met: Met,
 }
 
@@ -118,14 +123,53 @@ pub enum Ending {
     Refused,
 }
 
+/// What decides about the width where a run comes to an operator.
+#[derive(Clone, Copy)]
+pub struct AtOperator<'s> {
+    /// Its byte, of an escaped one the first.
+    pub operator: u8,
+    /// The operands that wait, the bottom one first, each with the token that it came from.
+    pub waiting: &'s [(Operand, u32)],
+    /// Whether an operator before has settled it.
+    pub settled: bool,
+    /// Whether masks have bytes by now.
+    pub fixed: bool,
+    /// 1 in the charstring itself.
+    pub depth: u32,
+}
+
 /// The rules that planted faults have others for.
 #[derive(Clone, Copy)]
 pub struct Rules {
     pub at_mask: fn(AtMask) -> Operands,
     pub at_end: fn(AtEnd) -> Ending,
+    /// The width that an operator settles; `None` where it settles nothing.
+    pub at_operator: fn(AtOperator) -> Option<Width>,
 }
 
-pub const RULES: Rules = Rules { at_mask, at_end };
+pub const RULES: Rules = Rules { at_mask, at_end, at_operator };
+
+/// The operators that may have a width below their operands, and of how many operands one is that.
+const WITH_WIDTH: [(&[u8], fn(usize) -> bool); 4] = [
+    (&[1, 3, 18, 23, 19, 20], |waiting| waiting % 2 == 1),
+    (&[21], |waiting| waiting > 2),
+    (&[4, 22], |waiting| waiting > 1),
+    (&[14], |waiting| waiting > 0),
+];
+
+/// The first operator settles it, but a call or a return.
+pub fn at_operator(at: AtOperator) -> Option<Width> {
+    if at.settled || [10, 11, 29].contains(&at.operator) {
+        return None;
+    }
+    Some(width_at(at.operator, at.waiting))
+}
+
+/// The width that these operands have at an operator.
+pub fn width_at(operator: u8, waiting: &[(Operand, u32)]) -> Width {
+    let row = WITH_WIDTH.iter().find(|(operators, _)| operators.contains(&operator));
+    row.filter(|(_, has)| has(waiting.len())).map(|_| waiting[0].0)
+}
 
 pub fn at_end(at: AtEnd) -> Ending {
     match at {
@@ -158,7 +202,8 @@ pub struct Lists<'a> {
     rules: Rules,
 }
 
-/// What a run met: calls that it entered, those of them by a Fixed, and of these the nearly whole; masks; the depth.
+/// What a run met: calls that it entered, those of them by a Fixed, and of these the nearly whole; masks; the depth; whether an
+/// operator of an entry settled the width.
 #[derive(Clone, Copy, Debug, Default)]
 pub struct Met {
     pub calls: u64,
@@ -166,6 +211,7 @@ pub struct Met {
     pub nearly: u64,
     pub masks: u64,
     pub deepest: u32,
+    pub inner_width: bool,
 }
 
 struct Run<'a> {
@@ -178,6 +224,8 @@ struct Run<'a> {
     flat: Vec<Item<'a>>,
     hints: usize,
     mask_length: usize,
+    /// The width, once an operator has settled it.
+    width: Option<Width>,
     met: Met,
 }
 
@@ -224,7 +272,7 @@ impl<'a> Lists<'a> {
     pub fn flattened(self, charstring: &'a [u8], strict: bool, budget: u32) -> (Verdict, Met) {
         let ran = self.run(charstring, strict, budget);
         let verdict = match ran.flat {
-            Ok(flat) => Verdict::Flat(flat.joined(), ran.tokens),
+            Ok(flat) => Verdict::Flat(flat.joined(), ran.tokens, ran.width),
             Err(refusal) => Verdict::Stopped(refusal, ran.tokens),
         };
         (verdict, ran.met)
@@ -240,10 +288,11 @@ impl<'a> Lists<'a> {
             flat: Vec::new(),
             hints: 0,
             mask_length: 0,
+            width: None,
             met: Met::default(),
         };
-        let ended = run.string(charstring, 1);
-        Ran { flat: ended.map(|_| Flat(run.flat)), tokens: run.tokens, met: run.met }
+        let flat = run.string(charstring, 1).map(|_| Flat(run.flat));
+        Ran { flat, tokens: run.tokens, width: run.width.flatten(), met: run.met }
     }
 }
 
@@ -277,6 +326,9 @@ impl<'a> Run<'a> {
                 return Err(3);
             }
             self.tokens += 1;
+            if !matches!(first, 28 | 32..=255) {
+                self.settle(first, depth);
+            }
             match first {
                 28 | 32..=255 => left = self.number(left)?,
                 12 => left = self.escaped(&left[1..])?,
@@ -299,6 +351,16 @@ impl<'a> Run<'a> {
             }
         }
         Ok(Some(By::RunningOut))
+    }
+
+    fn settle(&mut self, operator: u8, depth: u32) {
+        let settled = self.width.is_some();
+        let fixed = self.mask_length > 0;
+        let at = AtOperator { operator, waiting: &self.stack, settled, fixed, depth };
+        if let Some(width) = (self.lists.rules.at_operator)(at) {
+            self.width = Some(width);
+            self.met.inner_width = width.is_some() && depth > 1;
+        }
     }
 
     fn keep(&mut self, bytes: Vec<u8>) {
