@@ -1,5 +1,6 @@
-//! Random charstrings that mostly run to their endchar: stems, masks of their width, paths, and calls of subroutines
-//! that call others, over lists on both sides of each bias. About a third have one thing wrong in them, and a tenth no endchar.
+//! Random charstrings that mostly run to their endchar: a width every other time, stems, masks of their length, paths, and calls of
+//! subroutines that call others, over lists on both sides of each bias. About a third have one thing wrong in them, and a tenth
+//! no endchar.
 
 use super::case::{list, Case, GLOBAL, LOCAL};
 use super::font::Font;
@@ -13,10 +14,16 @@ const MOST_TOKENS: usize = 400;
 /// Bytes that are no operators.
 const NO_OPERATORS: [u8; 7] = [0, 2, 9, 13, 15, 16, 17];
 
+/// The operators that move, and how many operands each takes.
+const MOVES: [(u8, usize); 3] = [(21, 2), (22, 1), (4, 1)];
+
 /// What a subroutine leaves behind, called with an empty stack.
 #[derive(Clone, Copy, PartialEq)]
 enum Leaves {
     Nothing,
+    Width,
+    /// Nothing too.
+    Move,
     Operands,
     Hints(usize),
     End,
@@ -97,7 +104,19 @@ impl Making<'_> {
     fn charstring(&mut self, hints: usize, deep: bool) -> Vec<u8> {
         let mut string = Vec::new();
         let mut tokens = 0;
-        self.add_hints(&mut string, hints);
+        let wide = self.random.once_in(2);
+        if wide {
+            self.add_width(&mut string);
+        }
+        if hints > 0 {
+            self.add_hints(&mut string, hints, wide);
+        } else if self.random.once_in(8) {
+            // a glyph without a path
+            self.add_end(&mut string, &mut tokens);
+            return string;
+        } else if !self.random.once_in(4) {
+            self.add_move(&mut string);
+        }
         if let (true, Some(&outermost)) = (deep, self.made.iter().rfind(|made| made.tokens == 0)) {
             self.add_call(&mut string, outermost);
         }
@@ -121,10 +140,39 @@ impl Making<'_> {
         }
     }
 
-    /// So many hints: by stems, by subroutines of stems, and at times by operands before a first mask.
-    fn add_hints(&mut self, string: &mut Vec<u8>, hints: usize) {
+    /// The operand that is to be the width, as often a Fixed as an integer, at times a subroutine's.
+    fn add_width(&mut self, string: &mut Vec<u8>) {
+        let called = self.random.once_in(4)
+            && self.call_one(string, &mut 0, |leaves| leaves == Leaves::Width).is_some();
+        match self.random.once_in(2) {
+            _ if called => {}
+            true => {
+                string.extend([&[255], &(self.random.next() as i32).to_be_bytes()[..]].concat())
+            }
+            false => {
+                string.extend([&[28], &(self.random.next() as i16).to_be_bytes()[..]].concat())
+            }
+        }
+    }
+
+    /// A move with its operands, at times a subroutine's.
+    fn add_move(&mut self, string: &mut Vec<u8>) {
+        let called = self.random.once_in(3)
+            && self.call_one(string, &mut 0, |leaves| leaves == Leaves::Move).is_some();
+        if called {
+            return;
+        }
+        let (operator, takes) = self.random.one_of(&MOVES);
+        self.add_operands(string, takes);
+        string.push(operator);
+    }
+
+    /// So many hints: by stems, by subroutines of stems, and at times by operands before a first mask. Below the first operands a
+    /// width may wait.
+    fn add_hints(&mut self, string: &mut Vec<u8>, hints: usize, wide: bool) {
         let mut left = hints;
         while left > 0 {
+            let waiting = usize::from(wide && left == hints);
             let fits = |leaves| matches!(leaves, Leaves::Hints(n) if n <= left);
             if self.random.once_in(2) {
                 if let Some(Leaves::Hints(n)) = self.call_one(string, &mut 0, fits) {
@@ -132,10 +180,10 @@ impl Making<'_> {
                     continue;
                 }
             }
-            let n = self.random.within(1, left.min(24) as i64) as usize;
+            let n = self.random.within(1, left.min(24 - waiting) as i64) as usize;
             let implied = n == left && self.random.once_in(3);
             left -= n;
-            self.add_pairs(string, n);
+            self.add_pairs(string, n, waiting);
             if implied {
                 self.add_mask(string);
             } else {
@@ -144,10 +192,10 @@ impl Making<'_> {
         }
     }
 
-    /// The operands of so many hints; at times one more, where there may be, which is the width.
-    fn add_pairs(&mut self, string: &mut Vec<u8>, hints: usize) {
-        let width = usize::from(hints < 24 && self.random.once_in(6));
-        self.add_operands(string, 2 * hints + width);
+    /// The operands of so many hints; at times one more, where there may be, which is the width where no other is.
+    fn add_pairs(&mut self, string: &mut Vec<u8>, hints: usize, waiting: usize) {
+        let more = usize::from(2 * hints + waiting < 48 && self.random.once_in(6));
+        self.add_operands(string, 2 * hints + more);
     }
 
     fn add_operands(&mut self, string: &mut Vec<u8>, count: usize) {
@@ -238,7 +286,9 @@ impl Making<'_> {
         if self.made.iter().any(|made| (made.global, made.at) == (global, at)) {
             return;
         }
-        let leaves = match self.random.within(0, 9) {
+        let leaves = match self.random.within(0, 11) {
+            10 => Leaves::Width,
+            11 => Leaves::Move,
             0 | 1 => Leaves::Operands,
             2 | 3 => Leaves::Hints(self.random.within(1, 6) as usize),
             4 => Leaves::End,
@@ -263,8 +313,10 @@ impl Making<'_> {
                 let operands = self.random.within(1, 3) as usize;
                 self.add_operands(string, operands);
             }
+            Leaves::Width => self.add_width(string),
+            Leaves::Move => self.add_move(string),
             Leaves::Hints(hints) => {
-                self.add_pairs(string, hints);
+                self.add_pairs(string, hints, 0);
                 string.push(self.random.one_of(&STEMS));
             }
             Leaves::Nothing | Leaves::End => self.add_pieces(string, &mut tokens),
