@@ -5,7 +5,7 @@ use crate::operation::{library, Call, Fault, Found, Lent, Operation, Outcome, Pl
 use crate::operations::flatten::set;
 use crate::operations::{flatten, flatten_font, OPERATIONS};
 use crate::rules::flattening::Rules;
-use crate::{end_faults, mask_faults};
+use crate::{end_faults, mask_faults, width_faults};
 
 const MOST: usize = usize::MAX;
 
@@ -29,7 +29,7 @@ static EVERYWHERE: [Fault; 9] = [
 fn all() -> Vec<(&'static Fault, Option<&'static Operation>)> {
     let own = |&operation: &&'static Operation| {
         let strict = mask_faults::of(operation).iter().chain(end_faults::of(operation));
-        let own = operation.faults.iter().chain(strict);
+        let own = operation.faults.iter().chain(strict).chain(width_faults::of(operation));
         own.map(move |fault| (fault, Some(operation)))
     };
     let everywhere = EVERYWHERE.iter().map(|fault| (fault, None));

@@ -22,3 +22,4 @@ pub mod shrink;
 pub mod source;
 pub mod tally;
 pub mod threads;
+mod width_faults;

@@ -130,8 +130,8 @@ pub struct AtOperator<'s> {
     pub operator: u8,
     /// The operands that wait, the bottom one first, each with the token that it came from.
     pub waiting: &'s [(Operand, u32)],
-    /// Whether an operator before has settled it.
-    pub settled: bool,
+    /// What an operator before has settled.
+    pub settled: Option<Width>,
     /// Whether masks have bytes by now.
     pub fixed: bool,
     /// 1 in the charstring itself.
@@ -159,7 +159,7 @@ const WITH_WIDTH: [(&[u8], fn(usize) -> bool); 4] = [
 
 /// The first operator settles it, but a call or a return.
 pub fn at_operator(at: AtOperator) -> Option<Width> {
-    if at.settled || [10, 11, 29].contains(&at.operator) {
+    if at.settled.is_some() || [10, 29, 11].contains(&at.operator) {
         return None;
     }
     Some(width_at(at.operator, at.waiting))
@@ -354,8 +354,7 @@ impl<'a> Run<'a> {
     }
 
     fn settle(&mut self, operator: u8, depth: u32) {
-        let settled = self.width.is_some();
-        let fixed = self.mask_length > 0;
+        let (settled, fixed) = (self.width, self.mask_length > 0);
         let at = AtOperator { operator, waiting: &self.stack, settled, fixed, depth };
         if let Some(width) = (self.lists.rules.at_operator)(at) {
             self.width = Some(width);
