@@ -1,14 +1,15 @@
 //! Flattenings: those of the list, and those too big or too many to store.
 
 use super::case::{list, Case, Given, FIRST, GLOBAL, L, LOCAL, NONE, PLAIN, SECOND, STRICT};
-use super::edges;
 use super::index::rows as strings;
+use super::{edges, widths};
 use std::collections::HashSet;
 
 /// Those of the list, each once.
 pub fn listed() -> Vec<Given> {
     let mut asked: Vec<Given> = rows().iter().chain(&readings()).flat_map(Case::around).collect();
     asked.extend(edges::all());
+    asked.extend(widths::all());
     each_once(asked)
 }
 

@@ -9,6 +9,7 @@ pub mod index;
 mod loose;
 pub mod number;
 mod structured;
+mod widths;
 
 pub use damaged::damaged;
 pub use loose::loose;
