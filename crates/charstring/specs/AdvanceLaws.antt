@@ -6,11 +6,12 @@ use Prim.Native.Nat.{ℕ, zero, suc, _<_, zero-le}
 use native.Mathlib.Omega.{arith}
 use lib.ListN.{getD}
 use borrow.Author.Tests.{le-ltb}
+use Rattle.number.specs.declared.Operand.{Operand}
 use Rattle.reading.specs.Items.{spare, bottom, said}
 use Rattle.reading.specs.declared.Takes.{Takes}
 use Rattle.reading.specs.declared.Takes.the-variants.{Pairs, UpTo, All}
 use Rattle.reading.specs.declared.Advance.the-variants.{Default, Given}
-use Rattle.charstring.specs.Words.{unpackOf, stackOf}
+use Rattle.charstring.specs.Words.{unpackOf, stackOf, heldBy}
 use Rattle.charstring.specs.WordsLaws.{stack-length}
 use Rattle.charstring.specs.Run.{settledAt}
 use Rattle.charstring.specs.declared.state.State.{State}
@@ -40,5 +41,16 @@ says takes l (suc n) e = sym (said-of takes l (suc n) ∙ ap (λ (b : Bool). con
 pub says-none : (takes : Takes) (l : List ℕ) (n : ℕ) → spare takes n ≡ false → Default ≡ said takes (stackOf l n)
 says-none takes l n e = sym (said-of takes l n ∙ ap (λ (b : Bool). cond b (bottom (stackOf l n)) Default) e)
 
+-- the first operator settles it
 pub first-settles : (takes : Takes) (l : List ℕ) (s : State) → s .settled ≡ false → said takes (stackOf l (s .count)) ≡ settledAt takes l s
-first-settles takes l s e = sym (ap (λ (b : Bool). cond b (s .advance) (said takes (stackOf l (s .count)))) e)
+first-settles takes l s e = sym (ap (λ (b : Bool). cond b (heldBy s) (said takes (stackOf l (s .count)))) e)
+
+-- a later one lets be what the state holds
+pub settled-stays : (takes : Takes) (l : List ℕ) (s : State) → s .settled ≡ true → heldBy s ≡ settledAt takes l s
+settled-stays takes l s e = sym (ap (λ (b : Bool). cond b (heldBy s) (said takes (stackOf l (s .count)))) e)
+
+pub holds-one : (s : State) {o : Operand} → o ≡ unpackOf (s .word) → s .given ≡ true → Given o ≡ heldBy s
+holds-one s e g = ap Given e ∙ sym (ap (λ (b : Bool). cond b (Given (unpackOf (s .word))) Default) g)
+
+pub holds-none : (s : State) → s .given ≡ false → Default ≡ heldBy s
+holds-none s g = sym (ap (λ (b : Bool). cond b (Given (unpackOf (s .word))) Default) g)

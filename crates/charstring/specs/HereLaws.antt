@@ -17,6 +17,7 @@ use Rattle.reading.specs.ValidLaws.{good-goes}
 use Rattle.reading.specs.CutLaws.{bytes-drop}
 use Rattle.reading.specs.StraightLaws.{run-step}
 use Rattle.reading.specs.SizeLaws.{longestItem, valid-most, struck-fewer}
+use Rattle.charstring.specs.Words.{heldBy}
 use Rattle.charstring.specs.WordsLaws.{stack-length}
 use Rattle.charstring.specs.Run.{Counts, tailOf, Holds, Repr, settledAt, Setup, below, whole, onwards, Here}
 use Rattle.number.specs.declared.Operand.{Operand}
@@ -39,7 +40,7 @@ pub settled-so : (takes : Takes) (stack : List ℕ) (s : State) (x : Left) → H
 settled-so takes stack s x q =
     ap (λ (b : Bool). cond b (x .advance) (said takes (x .operands))) (q .settled-is)
     ∙ ap (λ (w : Advance). cond (s .settled) w (said takes (x .operands))) (q .advance-is)
-    ∙ ap (λ (ops : List Operand). cond (s .settled) (s .advance) (said takes ops)) (q .ops)
+    ∙ ap (λ (ops : List Operand). cond (s .settled) (heldBy s) (said takes ops)) (q .ops)
 
 module _ (rules : Rules) (stack out : List ℕ) (s : State) (t : Now) (r : Repr rules stack out s t) where
   pub counts-of : Counts t s

@@ -28,7 +28,7 @@ use Rattle.reading.specs.declared.Advance.{Advance}
 use Rattle.reading.specs.declared.Which.{Which}
 use Rattle.reading.specs.declared.Which.the-variants.{Local, Global}
 use Rattle.reading.specs.declared.Kind.the-variants.{Stem, Clear, Mask, Call, Return, End}
-use Rattle.charstring.specs.Words.{shortOf, stackOf}
+use Rattle.charstring.specs.Words.{shortOf, stackOf, heldBy}
 use Rattle.charstring.specs.declared.state.State.{State}
 use Rattle.charstring.specs.declared.look.Limits.{Limits}
 use Rattle.charstring.specs.declared.look.Request.{Request}
@@ -145,7 +145,7 @@ pub record Holds (stack : List ℕ) (s : State) (x : Left) : Type 0 where
   pub hints-are : x .hints ≡ s .hints
   pub mask-is : x .mask ≡ s .mask
   pub settled-is : x .settled ≡ s .settled
-  pub advance-is : x .advance ≡ s .advance
+  pub advance-is : x .advance ≡ heldBy s
 
 pub record Repr (rules : Rules) (stack out : List ℕ) (s : State) (t : Now) : Type 0 where
   pub room : s .count ≤ length stack
@@ -164,7 +164,7 @@ howOf (Refused k) = stopped (numberOf k)
 
 -- the advance width behind an operator that takes so many operands, as the code settles it or lets it be
 abbrev pub settledAt : Takes → List ℕ → State → Advance
-settledAt takes stack s = cond (s .settled) (s .advance) (said takes (stackOf stack (s .count)))
+settledAt takes stack s = cond (s .settled) (heldBy s) (said takes (stackOf stack (s .count)))
 
 -- ---- a string and what it is run with
 
@@ -206,7 +206,7 @@ pub record Done (rules : Rules) (stack₁ out₁ : List ℕ) (r : Ran) (x : Run)
   pub tokens-are : length (x .state .shown) ≡ r .st .tokens
   pub length-is : length (flat (struck (x .state .shown))) ≡ r .st .length
   pub bytes : Begins out₁ (flat (struck (x .state .shown)))
-  pub advance-is : x .state .left .advance ≡ r .st .advance
+  pub advance-is : x .state .left .advance ≡ heldBy (r .st)
   pub on : x .how ≡ back → Repr rules stack₁ out₁ (r .st) (x .state)
 
 -- the code's numbers have room in their types and in the stack

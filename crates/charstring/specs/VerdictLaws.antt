@@ -24,7 +24,7 @@ use Rattle.reading.specs.declared.Refusal.{Refusal}
 use Rattle.reading.specs.declared.Advance.{Advance}
 use Rattle.reading.specs.declared.Stopped.{Stopped}
 use Rattle.reading.specs.declared.Stopped.the-variants.{At, Alone}
-use Rattle.charstring.specs.Words.{stackOf}
+use Rattle.charstring.specs.Words.{stackOf, heldBy}
 use Rattle.charstring.specs.WordsLaws.{begins-none, begins-take}
 use Rattle.charstring.specs.States.{begun}
 use Rattle.charstring.specs.Run.{Begins, tailOf, Repr, howOf, Done, stopAs, Roomy, countOf, Setting, Sound, RunsTo}
@@ -104,23 +104,24 @@ told-so k t = go (leb (numberOf k) 12)
     go false = refl
 
 module _ (rules : Rules) (stack₁ out₁ : List ℕ) (r : Ran) (x : Run) (d : Done rules stack₁ out₁ r x) where
-  abbrev measured : Flattening
-  measured = record { size = r .st .length; tokens = r .st .tokens; advance = r .st .advance }
+  -- with the advance width w
+  abbrev measured : Advance → Flattening
+  measured w = record { size = r .st .length; tokens = r .st .tokens; advance = w }
 
-  flat-so : AcceptedBy rules (x .how) → accepted measured ≡ verdict rules x
+  flat-so : (w : Advance) → w ≡ heldBy (r .st) → AcceptedBy rules (x .how) → accepted (measured w) ≡ verdict rules x
   unfolding verdict
-  flat-so a =
+  flat-so w v a =
       let count : r .st .tokens ≡ tokens x = sym (d .tokens-are) ∙ sym (accepted-tokens (x .how) _ (came-to-end rules (x .how) a)) in
-      ap (λ (n : ℕ). accepted (record { size = n; tokens = r .st .tokens; advance = r .st .advance })) (sym (d .length-is))
-      ∙ ap (λ (n : ℕ). accepted (record { size = length (flatOf x); tokens = n; advance = r .st .advance })) count
-      ∙ ap (λ (w : Advance). accepted (record { size = length (flatOf x); tokens = tokens x; advance = w })) (sym (d .advance-is))
+      ap (λ (n : ℕ). accepted (record { size = n; tokens = r .st .tokens; advance = w })) (sym (d .length-is))
+      ∙ ap (λ (n : ℕ). accepted (record { size = length (flatOf x); tokens = n; advance = w })) count
+      ∙ ap (λ (y : Advance). accepted (record { size = length (flatOf x); tokens = tokens x; advance = y })) (v ∙ sym (d .advance-is))
       ∙ ap toldIn (sym (judged-accepted rules x a))
 
   back-is : r .how ≡ Back → back ≡ x .how
   back-is e = sym (ap howOf e) ∙ d .how
 
-  pub came-back : r .how ≡ Back → rules .finished ≡ false → accepted measured ≡ verdict rules x
-  came-back e f = flat-so (subst (AcceptedBy rules) (back-is e) f)
+  pub came-back : (w : Advance) → w ≡ heldBy (r .st) → r .how ≡ Back → rules .finished ≡ false → accepted (measured w) ≡ verdict rules x
+  came-back w v e f = flat-so w v (subst (AcceptedBy rules) (back-is e) f)
 
   pub unfinished : r .how ≡ Back → rules .finished ≡ true → refused 16 alone ≡ verdict rules x
   unfolding verdict judged readyBy
@@ -128,8 +129,8 @@ module _ (rules : Rules) (stack₁ out₁ : List ℕ) (r : Ran) (x : Run) (d : D
       ap (λ (b : Bool). toldIn (cond b (refused 16 alone) (accepted (flatReady x)))) (sym f)
       ∙ ap (λ (h : How). toldIn (readyBy rules x h)) (back-is e)
 
-  pub all-ended : r .how ≡ Ended → accepted measured ≡ verdict rules x
-  all-ended e = flat-so (subst (AcceptedBy rules) (sym (ap howOf e) ∙ d .how) tt)
+  pub all-ended : (w : Advance) → w ≡ heldBy (r .st) → r .how ≡ Ended → accepted (measured w) ≡ verdict rules x
+  all-ended w v e = flat-so w v (subst (AcceptedBy rules) (sym (ap howOf e) ∙ d .how) tt)
 
   module _ (k : Refusal) (e : r .how ≡ Refused k) where
     stopped-is : x .how ≡ stopped (numberOf k)

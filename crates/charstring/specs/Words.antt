@@ -1,5 +1,5 @@
 -- What the code holds, in the reading's words.
-use mathlib.Core.Bool.{false, cond}
+use mathlib.Core.Bool.{Bool, false, cond}
 use mathlib.Core.List.{List, [], _∷_}
 use Prim.Native.Nat.{ℕ, zero, suc, _-_, _/_, _%_, _^_, _≤_, _<_}
 use lib.Dec.{leb, ltb}
@@ -16,6 +16,10 @@ use Rattle.reading.specs.Rules.{Rules}
 use Rattle.reading.specs.Lists.{Entry, present, absent}
 use Rattle.reading.specs.Reading.{admitted}
 use Rattle.reading.specs.Answers.{numberOf}
+use Rattle.reading.specs.declared.Advance.{Advance}
+use Rattle.reading.specs.declared.Advance.the-variants.{Default, Given}
+use Rattle.charstring.specs.declared.advance.Said.{Said}
+use Rattle.charstring.specs.declared.state.State.{State}
 use Rattle.charstring.specs.declared.token.Token.{Token}
 use Rattle.charstring.specs.declared.token.Token.the-variants.{Number, Operator, Lacking}
 use Rattle.charstring.specs.declared.subroutines.Target.{Target}
@@ -53,6 +57,16 @@ unpackOf w =
 unfoldable pub stackOf : List ℕ → ℕ → List Operand
 stackOf l zero = []
 stackOf l (suc n) = unpackOf (getD l n 0) ∷ stackOf l n
+
+-- the advance width as an operator says it, and as the state holds it
+abbrev saidBy : Bool → ℕ → Advance
+saidBy given w = cond given (Given (unpackOf w)) Default
+
+abbrev pub saidOf : Said → Advance
+saidOf x = saidBy (x .given) (x .word)
+
+abbrev pub heldBy : State → Advance
+heldBy s = saidBy (s .given) (s .word)
 
 -- ---- the entry that a call enters
 

@@ -1,4 +1,5 @@
 // Flattening: the verdict without writing, and the flat string into lent room.
+use crate::advance::advance_of;
 use crate::charstring::run;
 use crate::look::Limits;
 use crate::state::at_start;
@@ -151,7 +152,7 @@ fn draft_by<'a>(
     );
     let how = r.how;
     let st = r.st;
-    let advance = st.advance;
+    let advance = advance_of(st);
     match how {
         Ending::Back => {
             if rules.finished {

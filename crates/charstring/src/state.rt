@@ -1,5 +1,5 @@
 // The running state, but for the operands, which stand in the lent stack, and how each token changes it.
-use reading::Advance;
+use crate::advance::Said;
 ghost use mathlib.Core.Path.{_≡_};
 ghost use Prim.Native.Nat.{_+_, _<_, _≤_};
 ghost use Rattle.charstring.specs.States.{begun, pushed, cleared, masked, returned, finished, entered};
@@ -18,7 +18,9 @@ pub(crate) struct State {
     pub length: usize,
     // Whether an operator has settled the advance width.
     pub settled: bool,
-    pub advance: Advance,
+    // Whether one is given, and then the word that holds it.
+    pub given: bool,
+    pub word: u64,
 }
 
 // Before the first token.
@@ -33,7 +35,8 @@ pub(crate) fn at_start() -> State
         tokens: 0,
         length: 0,
         settled: false,
-        advance: Advance::Default,
+        given: false,
+        word: 0,
     }
 }
 
@@ -42,7 +45,6 @@ pub(crate) fn push(s: State, length: usize) -> State
     requires { ⌜ (s .count < 65536) × (s .tail ≤ s .count) × (s .tokens < 4294967295) ⌝ }
     ensures { λ r. ⌜ r ≡ pushed s length ⌝ }
 {
-    let advance = s.advance;
     State {
         count: s.count + 1,
         tail: s.tail + 1,
@@ -51,14 +53,15 @@ pub(crate) fn push(s: State, length: usize) -> State
         tokens: s.tokens + 1,
         length,
         settled: s.settled,
-        advance,
+        given: s.given,
+        word: s.word,
     }
 }
 
-// Behind an operator that clears the stack, with so many hints and this advance width.
-pub(crate) fn clear(s: State, hints: usize, length: usize, advance: Advance) -> State
+// Behind an operator that clears the stack, with so many hints, and what is said of the advance width.
+pub(crate) fn clear(s: State, hints: usize, length: usize, said: Said) -> State
     requires { ⌜ s .tokens < 4294967295 ⌝ }
-    ensures { λ r. ⌜ r ≡ cleared s hints length advance ⌝ }
+    ensures { λ r. ⌜ r ≡ cleared s hints length said ⌝ }
 {
     State {
         count: 0,
@@ -68,7 +71,8 @@ pub(crate) fn clear(s: State, hints: usize, length: usize, advance: Advance) -> 
         tokens: s.tokens + 1,
         length,
         settled: true,
-        advance,
+        given: said.given,
+        word: said.word,
     }
 }
 
@@ -79,10 +83,10 @@ pub(crate) fn mask(
     hints: usize,
     bytes: usize,
     length: usize,
-    advance: Advance,
+    said: Said,
 ) -> State
     requires { ⌜ s .tokens < 4294967295 ⌝ }
-    ensures { λ r. ⌜ r ≡ masked s count hints bytes length advance ⌝ }
+    ensures { λ r. ⌜ r ≡ masked s count hints bytes length said ⌝ }
 {
     State {
         count,
@@ -92,7 +96,8 @@ pub(crate) fn mask(
         tokens: s.tokens + 1,
         length,
         settled: true,
-        advance,
+        given: said.given,
+        word: said.word,
     }
 }
 
@@ -101,7 +106,6 @@ pub(crate) fn go_back(s: State) -> State
     requires { ⌜ s .tokens < 4294967295 ⌝ }
     ensures { λ r. ⌜ r ≡ returned s ⌝ }
 {
-    let advance = s.advance;
     State {
         count: s.count,
         tail: s.tail,
@@ -110,14 +114,15 @@ pub(crate) fn go_back(s: State) -> State
         tokens: s.tokens + 1,
         length: s.length,
         settled: s.settled,
-        advance,
+        given: s.given,
+        word: s.word,
     }
 }
 
 // Behind an endchar.
-pub(crate) fn finish(s: State, length: usize, advance: Advance) -> State
+pub(crate) fn finish(s: State, length: usize, said: Said) -> State
     requires { ⌜ s .tokens < 4294967295 ⌝ }
-    ensures { λ r. ⌜ r ≡ finished s length advance ⌝ }
+    ensures { λ r. ⌜ r ≡ finished s length said ⌝ }
 {
     State {
         count: s.count,
@@ -127,7 +132,8 @@ pub(crate) fn finish(s: State, length: usize, advance: Advance) -> State
         tokens: s.tokens + 1,
         length,
         settled: true,
-        advance,
+        given: said.given,
+        word: said.word,
     }
 }
 
@@ -136,7 +142,6 @@ pub(crate) fn enter(s: State, size: usize) -> State
     requires { ⌜ (0 < s .count) × (0 < s .tail) × (s .tokens < 4294967295) × (size ≤ s .length) ⌝ }
     ensures { λ r. ⌜ r ≡ entered s size ⌝ }
 {
-    let advance = s.advance;
     State {
         count: s.count - 1,
         tail: s.tail - 1,
@@ -145,6 +150,7 @@ pub(crate) fn enter(s: State, size: usize) -> State
         tokens: s.tokens + 1,
         length: s.length - size,
         settled: s.settled,
-        advance,
+        given: s.given,
+        word: s.word,
     }
 }

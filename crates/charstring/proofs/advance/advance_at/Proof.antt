@@ -1,12 +1,12 @@
 use mathlib.Core.Path.{_∙_}
 use borrow.Author.Needs.{needs}
 use Rattle.reading.specs.Rules.{type2Takes}
-use Rattle.charstring.specs.AdvanceLaws.{first-settles}
+use Rattle.charstring.specs.AdvanceLaws.{first-settles, settled-stays}
 use Rattle.charstring.proofs.advance.advance_at.Statement.{statement}
 use Rattle.charstring.proofs.advance.advance_at.Tie as tie
 
 returns : tie.Need-returns
-returns c = search needs
+returns c = let args = c .before .before .args in settled-stays (type2Takes (args .p)) (args .stack .now) (args .s) (search needs)
 
 said-at-requires : tie.Need-said-at-requires
 said-at-requires c κs = search needs

@@ -5,7 +5,6 @@ use Rattle.charstring.specs.AdvanceLaws.{spare-some, says, says-none}
 use Rattle.reading.specs.Rules.{type2Takes}
 use Rattle.reading.specs.Items.{spare}
 use Rattle.reading.specs.declared.Takes.{Takes}
-use Rattle.reading.specs.declared.Advance.the-variants.{Given}
 use borrow.Author.Needs.{needs}
 use Rattle.charstring.proofs.advance.said_at.Statement.{statement}
 use Rattle.charstring.proofs.advance.said_at.Tie as tie
@@ -13,7 +12,8 @@ use Rattle.charstring.proofs.advance.said_at.Tie as tie
 -- by the test
 is-spare : (c : tie.After-exceeds) → (t : Bool) → c .exceeds .result ≡ t
     → let args = c .before .before .before .args in spare (type2Takes (args .p)) (args .count) ≡ t
-is-spare c t e = ap (λ (y : Takes). spare y (c .before .before .before .args .count)) (sym (c .before .takes-of .ensures)) ∙ sym (c .exceeds .ensures) ∙ e
+is-spare c t e =
+    ap (λ (y : Takes). spare y (c .before .before .before .args .count)) (sym (c .before .takes-of .ensures)) ∙ sym (c .exceeds .ensures) ∙ e
 
 takes-of-requires : tie.Need-takes-of-requires
 takes-of-requires c κs = search needs
@@ -21,19 +21,16 @@ takes-of-requires c κs = search needs
 exceeds-requires : tie.Need-exceeds-requires
 exceeds-requires c κs = search needs
 
-shared-slice-read-unpack : tie.Need-shared-slice-read-unpack
-shared-slice-read-unpack c =
+shared-slice-read-word : tie.Need-shared-slice-read-word
+shared-slice-read-word c =
     let start = c .before .before .before .before .before in
     let some = spare-some (type2Takes (start .args .p)) (start .args .count) (is-spare (c .before .before) true (search needs)) in
     lt-of-lt-of-le some (start .pre)
 
-unpack-requires : tie.Need-unpack-requires
-unpack-requires c κs = search needs
-
 returns : tie.Need-returns
 returns c =
-    let args = c .before .before .before .before .before .before .args in
-    ap Given (c .unpack .ensures) ∙ says (type2Takes (args .p)) (args .stack .now) (args .count) (is-spare (c .before .before .before) true (search needs))
+    let args = c .before .before .before .before .before .args in
+    says (type2Takes (args .p)) (args .stack .now) (args .count) (is-spare (c .before .before) true (search needs))
 
 returns-2 : tie.Need-returns-2
 returns-2 c =
@@ -41,4 +38,4 @@ returns-2 c =
     says-none (type2Takes (args .p)) (args .stack .now) (args .count) (is-spare (c .before) false (search needs))
 
 pub said-at-spec : {M : Type 1} → statement M
-said-at-spec = tie.close (tie.spec takes-of-requires exceeds-requires shared-slice-read-unpack unpack-requires returns returns-2)
+said-at-spec = tie.close (tie.spec takes-of-requires exceeds-requires shared-slice-read-word returns returns-2)

@@ -32,6 +32,9 @@ run-requires c κs =
     let start = at-limits-of .before .before .before .before .before .before in
     ready (start .args .rules) _ _ _ _ (start .args .budget) _ _ (at-start .at-start .ensures) (at-limits-of .limits-of .ensures) (start .pre)
 
+advance-of-requires : tie.Need-advance-of-requires
+advance-of-requires c κs = search needs
+
 enum-told : tie.Need-enum-told
 enum-told c = search needs
 
@@ -43,7 +46,7 @@ enum-known-how c = search needs
 
 stopped-by-requires : tie.Need-stopped-by-requires
 stopped-by-requires c κs =
-    let at-run = c .before .before .before .before .before .before .before .before in
+    let at-run = c .before .before .before .before .before .before .before .before .before in
     let start = at-run .before .before .before .before .before .before .before .before .before .before in
     few-tokens _ _ _ _ _ (ran at-run) _ (c .before .how .given .1) (start .args .budget) (tokens-budget _ _ _ _) (start .fits .budget .fits)
 
@@ -55,7 +58,7 @@ same-length-2 c = search needs
 
 returns : tie.Need-returns
 returns c =
-    let d = ran (c .before .before .before .before .before .before .before .before) in
+    let d = ran (c .before .before .before .before .before .before .before .before .before) in
     (unfinished _ _ _ _ _ d (c .before .enum-told .given .1) (c .if1 .taken), d .bytes)
 
 same-length-3 : tie.Need-same-length-3
@@ -66,8 +69,9 @@ same-length-4 c = search needs
 
 returns-2 : tie.Need-returns-2
 returns-2 c =
-    let d = ran (c .before .before .before .before .before .before .before .before) in
-    (came-back _ _ _ _ _ d (c .before .enum-told .given .1) (c .if1 .left), d .bytes)
+    let at-advance = c .before .before .before in
+    let d = ran (at-advance .before .before .before .before .before .before) in
+    (came-back _ _ _ _ _ d _ (at-advance .advance-of .ensures) (c .before .enum-told .given .1) (c .if1 .left), d .bytes)
 
 same-length-5 : tie.Need-same-length-5
 same-length-5 c = search needs
@@ -76,7 +80,10 @@ same-length-6 : tie.Need-same-length-6
 same-length-6 c = search needs
 
 returns-3 : tie.Need-returns-3
-returns-3 c = let d = ran (c .before .before .before .before .before .before .before) in (all-ended _ _ _ _ _ d (c .enum-told2 .given .1), d .bytes)
+returns-3 c =
+    let at-advance = c .before .before in
+    let d = ran (at-advance .before .before .before .before .before .before) in
+    (all-ended _ _ _ _ _ d _ (at-advance .advance-of .ensures) (c .enum-told2 .given .1), d .bytes)
 
 same-length-7 : tie.Need-same-length-7
 same-length-7 c = search needs
@@ -86,7 +93,7 @@ same-length-8 c = search needs
 
 returns-4 : tie.Need-returns-4
 returns-4 c =
-    let d = ran (c .before .before .before .before .before .before .before .before .before) in
+    let d = ran (c .before .before .before .before .before .before .before .before .before .before) in
     (was-stopped _ _ _ _ _ d _ (c .before .before .how .given .1) _ (c .stopped-by .ensures), d .bytes)
 
 pub draft-by-spec : {M : Type 1} → statement M
@@ -96,6 +103,7 @@ draft-by-spec =
     limits-of-requires
     at-start-requires
     run-requires
+    advance-of-requires
     enum-told
     same-length
     same-length-2

@@ -1,0 +1,18 @@
+use mathlib.Core.Path.{sym, ap, _∙_}
+use mathlib.Core.Bool.{Bool, cond}
+use Rattle.charstring.specs.AdvanceLaws.{holds-one, holds-none}
+use borrow.Author.Needs.{needs}
+use Rattle.charstring.proofs.advance.advance_of.Statement.{statement}
+use Rattle.charstring.proofs.advance.advance_of.Tie as tie
+
+unpack-requires : tie.Need-unpack-requires
+unpack-requires c κs = search needs
+
+returns : tie.Need-returns
+returns c = holds-one (c .before .before .args .s) (c .unpack .ensures) (search needs)
+
+returns-2 : tie.Need-returns-2
+returns-2 c = holds-none (c .before .args .s) (search needs)
+
+pub advance-of-spec : {M : Type 1} → statement M
+advance-of-spec = tie.close (tie.spec unpack-requires returns returns-2)
