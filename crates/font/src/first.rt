@@ -41,7 +41,7 @@ pub(crate) fn measure_all<'a>(
         let glyph = entry_part(charstrings, Width::Two, i);
         let to = reached(sum, joined.len());
         let verdict = draft(glyph, globals, locals, profile, budget, &mut joined[to..]);
-        let Flattened::Accepted(n, _, _) = verdict else {
+        let Flattened::Accepted(n, ..) = verdict else {
             return stopped(i, verdict);
         };
         sum += n as u64;

@@ -135,14 +135,8 @@ fn put_run<'a>(
     ensures { λ r. ⌜ Begun (stringIn profile (now (globals .entry)) (now (locals .entry)) budget (now (glyph .entry))) to
         (now (out .entry)) (now (out .exit)) r ⌝ }
 {
-    let Flattened::Accepted(n, _, _) = draft(
-        glyph,
-        globals,
-        locals,
-        profile,
-        budget,
-        &mut out[to..],
-    ) else {
+    let Flattened::Accepted(n, ..) = draft(glyph, globals, locals, profile, budget, &mut out[to..])
+    else {
         return 0;
     };
     n as u32
