@@ -5,8 +5,8 @@
 mod example;
 
 use crate::{alone, index};
-use example::{flatten, Counts, Report};
-use ighzamrel::{Profile, Refusal, Refused};
+use example::{flatten, Advance, Counts, Report, Widths};
+use ighzamrel::{Operand, Profile, Refusal, Refused};
 use std::collections::BTreeMap;
 
 /// An operator of a DICT with its operands, each in five bytes, so that its length does not depend on them.
@@ -19,11 +19,18 @@ fn entry(operands: &[usize], operator: &[u8]) -> Vec<u8> {
     [&bytes, operator].concat()
 }
 
-/// An OpenType file with this one table.
-fn file(tag: &[u8; 4], table: &[u8]) -> Vec<u8> {
-    let length = (table.len() as u32).to_be_bytes();
-    let record = [&tag[..], &[0; 4], &28u32.to_be_bytes(), &length].concat();
-    [b"OTTO", &[0, 1, 0, 0, 0, 0, 0, 0][..], &record, table].concat()
+/// An OpenType file with these tables.
+fn file(tables: &[(&[u8; 4], &[u8])]) -> Vec<u8> {
+    let count = tables.len();
+    let mut head = [b"OTTO", &[0, count as u8, 0, 0, 0, 0, 0, 0][..]].concat();
+    let mut at = 12 + 16 * count;
+    for (tag, table) in tables {
+        let place = [at, table.len()].map(|number| (number as u32).to_be_bytes());
+        head.extend([&tag[..], &[0; 4], &place.concat()].concat());
+        at += table.len();
+    }
+    let tables: Vec<&[u8]> = tables.iter().map(|(_, table)| *table).collect();
+    [head, tables.concat()].concat()
 }
 
 const REAL: [u8; 6] = [30, 0x0A, 0x00, 0x1F, 12, 7];
@@ -34,9 +41,10 @@ const AT_MASK: &[u8] = &[0x8B, 0x8C, 0x01, 0x13, 0x80, 0x8B, 0x13, 0x80, 0x0E];
 /// -107 callsubr endchar, endchar, and an operator that is none.
 const GLYPHS: [&[u8]; 3] = [&[0x20, 0x0A, 0x0E], &[0x0E], &[0x00]];
 
-/// A Private DICT, and behind it its local list.
-fn private(list: &[u8]) -> Vec<u8> {
-    [&entry(&[6], &[19])[..], list].concat()
+/// A Private DICT with this in it too, and behind it its local list; and the DICT's size.
+fn private(more: &[u8], list: &[u8]) -> (Vec<u8>, usize) {
+    let size = 6 + more.len();
+    ([&entry(&[size], &[19])[..], more, list].concat(), size)
 }
 
 /// A CFF table up to its Global Subr INDEX.
@@ -57,52 +65,65 @@ fn plain_font() -> Vec<u8> {
 
 /// A font with these glyphs and this local list.
 fn font_with(glyphs: &[u8], locals: &[u8]) -> Vec<u8> {
+    file(&[(b"CFF ", &table_with(glyphs, private(&[], locals)))])
+}
+
+fn table_with(glyphs: &[u8], (private, size): (Vec<u8>, usize)) -> Vec<u8> {
     let top = |glyphs, private| {
         [
             &REAL[..],
             &entry(&[glyphs], &[17]),
-            &entry(&[6, private], &[18]),
+            &entry(&[size, private], &[18]),
         ]
         .concat()
     };
     let start = head(&top(0, 0)).len();
     let head = head(&top(start, start + glyphs.len()));
-    file(b"CFF ", &[&head, glyphs, &private(locals)].concat())
+    [&head, glyphs, &private].concat()
+}
+
+/// A font with these glyphs, this in its Private DICT, and these advance widths, all of them in hmtx with a side bearing.
+fn font_by_widths(glyphs: &[&[u8]], more: &[u8], advances: &[u16]) -> Vec<u8> {
+    let (hhea, hmtx) = metrics(advances);
+    let cff = table_with(&index(glyphs), private(more, &index(&[])));
+    file(&[(b"CFF ", &cff), (b"hhea", &hhea), (b"hmtx", &hmtx)])
+}
+
+fn metrics(advances: &[u16]) -> (Vec<u8>, Vec<u8>) {
+    let bearing = |advance: &u16| [advance.to_be_bytes(), [0, 7]].concat();
+    let hhea = [&[0; 34][..], &(advances.len() as u16).to_be_bytes()].concat();
+    (hhea, advances.iter().flat_map(bearing).collect())
 }
 
 /// A font with two Font DICTs: the first glyph goes by the second.
 fn cid_font(select: &[u8]) -> Vec<u8> {
+    file(&[(b"CFF ", &cid_table(select))])
+}
+
+/// In the Private DICTs nominalWidthX is 100 and 200, and defaultWidthX 10 and 20.
+fn cid_table(select: &[u8]) -> Vec<u8> {
     let top = |glyphs, dicts, select| {
         let dicts = entry(&[dicts], &[12, 36]);
         [entry(&[glyphs], &[17]), dicts, entry(&[select], &[12, 37])].concat()
     };
     let glyphs = index(&GLYPHS);
-    let lists: [&[u8]; 2] = [&[0x0E], &[0x8C, 0x16, 0x0B]];
-    let privates = lists.map(|subroutine| private(&index(&[subroutine])));
+    let widths = |nominal, default| [entry(&[nominal], &[21]), entry(&[default], &[20])].concat();
+    let (first, size) = private(&widths(100, 10), &index(&[&[0x0E]]));
+    let (second, _) = private(&widths(200, 20), &index(&[&[0x8C, 0x16, 0x0B]]));
     let dicts = |at: usize| {
-        let second = at + privates[0].len();
-        index(&[&entry(&[6, at], &[18]), &entry(&[6, second], &[18])])
+        let place = |at| entry(&[size, at], &[18]);
+        index(&[&place(at), &place(at + first.len())])
     };
-    let first = head(&top(0, 0, 0)).len();
-    let second = first + glyphs.len();
-    let third = second + dicts(0).len();
-    let fourth = third + select.len();
-    let head = head(&top(first, second, third));
-    file(
-        b"CFF ",
-        &[
-            head,
-            glyphs,
-            dicts(fourth),
-            select.to_vec(),
-            privates.concat(),
-        ]
-        .concat(),
-    )
+    let at_glyphs = head(&top(0, 0, 0)).len();
+    let at_dicts = at_glyphs + glyphs.len();
+    let at_select = at_dicts + dicts(0).len();
+    let head = head(&top(at_glyphs, at_dicts, at_select));
+    let dicts = dicts(at_select + select.len());
+    [&head, &glyphs, &dicts, select, &first, &second].concat()
 }
 
 fn plain(font: &[u8]) -> Report {
-    flatten(font, Profile::Plain).unwrap()
+    flatten(font, 0, Profile::Plain).unwrap()
 }
 
 fn counts(tokens: u64, before: usize, after: usize) -> Option<Counts> {
@@ -113,6 +134,7 @@ fn counts(tokens: u64, before: usize, after: usize) -> Option<Counts> {
         before,
         after,
         refused,
+        widths: Widths::default(),
     })
 }
 
@@ -125,9 +147,11 @@ fn a_font_is_flattened_in_one_go() {
     let whole = report.whole.unwrap().unwrap();
     assert_eq!(whole.flat, index(&[&[0x8C, 0x8D, 0x15, 0x0E], &[0x0E]]));
     assert_eq!((report.glyphs, whole.before), (2, glyphs.len()));
-    assert_eq!(report.counts, None);
     assert!(text.starts_with("2 glyphs\n  in one go: 10 bytes before, 11 after, in "));
-    assert_eq!(text.lines().count(), 2);
+    let one_by_one = "one by one: 2 flattened, 4 bytes before, 5 after, in 8 tokens";
+    let widths = "widths: 0 say one of their own; hmtx has none";
+    let lines: Vec<&str> = text.lines().map(str::trim).collect();
+    assert_eq!(lines[2..], [one_by_one, widths]);
 }
 
 #[test]
@@ -142,7 +166,7 @@ fn refused_glyphs_are_counted() {
 fn refused_in_strict(glyph: &[u8], refusal: Refusal, tokens: Option<u32>, all: u32) {
     let glyphs = index(&[GLYPHS[0], GLYPHS[1], glyph]);
     let font = font_with(&glyphs, &index(&[&[0x8C, 0x8D, 0x15, 0x0B]]));
-    let report = flatten(&font, Profile::Strict).unwrap();
+    let report = flatten(&font, 0, Profile::Strict).unwrap();
     let text = report.to_string();
     let lines: Vec<&str> = text.lines().map(str::trim).collect();
     let first = report.whole.unwrap().unwrap_err();
@@ -153,7 +177,8 @@ fn refused_in_strict(glyph: &[u8], refusal: Refusal, tokens: Option<u32>, all: u
             "3 glyphs",
             &format!("in one go: {first}"),
             &format!("one by one: 2 flattened, 4 bytes before, 5 after, in {all} tokens"),
-            &format!("1 with {refusal}")
+            &format!("1 with {refusal}"),
+            "widths: 0 say one of their own; hmtx has none"
         ]
     );
 }
@@ -171,10 +196,8 @@ fn a_damaged_list_is_told_with_its_entry() {
         (font_with(&list, &index(&[])), Refusal::BadCharstrings),
     ] {
         let (report, why) = (plain(&font), why(refusal));
-        assert_eq!(
-            report.to_string(),
-            format!("3 glyphs\n  in one go: {why}\n")
-        );
+        let text = report.to_string();
+        assert_eq!(text, format!("3 glyphs\n  in one go: {why}\n"));
         assert_eq!(report.whole.unwrap().unwrap_err(), why);
     }
 }
@@ -190,25 +213,27 @@ fn a_glyph_goes_by_its_own_local_list() {
         assert_eq!(report.counts, counts(8, 4, 4));
         assert!(report.whole.is_none());
     }
-    let why = flatten(&cid_font(&[0, 2, 0, 0]), Profile::Plain).unwrap_err();
+    let why = flatten(&cid_font(&[0, 2, 0, 0]), 0, Profile::Plain).unwrap_err();
     assert_eq!(why, "glyph 0 has no Font DICT");
 }
 
 #[test]
 fn a_file_that_is_no_such_font_is_told() {
-    let why = |file: &[u8]| flatten(file, Profile::Plain).unwrap_err();
+    let why = |file: &[u8]| flatten(file, 0, Profile::Plain).unwrap_err();
     assert_eq!(why(b"GIF89a"), "it does not start as an OpenType file does");
     assert_eq!(why(b"OTTO"), "its table directory is cut off");
     assert_eq!(
-        why(&file(b"glyf", &[])),
+        why(&file(&[(b"glyf", &[])])),
         "it has no table `CFF `; its outlines are of another kind"
     );
-    assert_eq!(why(&file(b"CFF ", &[1, 0])), "its CFF header is cut off");
+    let cff = |table| why(&file(&[(b"CFF ", table)]));
+    assert_eq!(cff(&[1, 0]), "its CFF header is cut off");
     assert_eq!(
-        why(&file(b"CFF ", &[1, 0, 4, 1])),
+        cff(&[1, 0, 4, 1]),
         format!("its Name INDEX: {}", Refusal::IndexLacking)
     );
-    for font in [plain_font(), cid_font(&[0, 1, 0, 0])] {
+    let wide = font_by_widths(&GLYPHS[..2], &[], &[0, 0]);
+    for font in [plain_font(), cid_font(&[0, 1, 0, 0]), wide] {
         (0..font.len()).for_each(|length| assert!(!why(&font[..length]).is_empty()));
     }
 }
@@ -219,16 +244,133 @@ fn damaged_fonts_are_told_or_counted() {
         plain_font(),
         cid_font(&[0, 1, 0, 0]),
         cid_font(&[3, 0, 1, 0, 0, 1, 0, 3]),
+        font_by_widths(&GLYPHS[..2], &WIDTHS, &[0, 0]),
     ] {
         for (at, value) in
             (0..font.len()).flat_map(|at| [0, 1, 4, 127, 255].map(|value| (at, value)))
         {
             let mut damaged = font.clone();
             damaged[at] = value;
-            match flatten(&damaged, Profile::Plain) {
+            match flatten(&damaged, 0, Profile::Plain) {
                 Ok(report) => assert!(report.whole.is_some() || report.counts.is_some()),
                 Err(why) => assert!(!why.is_empty()),
             }
         }
     }
+}
+
+/// defaultWidthX 250 and nominalWidthX 499.5, a real.
+const WIDTHS: [u8; 8] = [0xF7, 0x8E, 20, 30, 0x49, 0x9A, 0x5F, 21];
+
+/// -0.5 1 2 rmoveto endchar, and endchar.
+const WIDE: [&[u8]; 2] = [
+    &[0xFF, 0xFF, 0xFF, 0x80, 0x00, 0x8C, 0x8D, 0x15, 0x0E],
+    &[0x0E],
+];
+
+fn widths(font: &[u8]) -> Widths {
+    plain(font).counts.unwrap().widths
+}
+
+#[test]
+fn widths_are_held_against_hmtx() {
+    let by = |advances: &[u16]| widths(&font_by_widths(&WIDE, &WIDTHS, advances));
+    let all = |agree, rounded, differ, first_other| Widths {
+        said: 1,
+        agree,
+        rounded,
+        differ,
+        first_other,
+    };
+    let other = |glyph, by_hmtx, width, by_charstring| {
+        Some(Advance {
+            glyph,
+            by_hmtx,
+            width,
+            by_charstring,
+        })
+    };
+    let half = Some(Operand::Fixed(-32_768));
+    assert_eq!(by(&[499, 250]), all(2, 0, 0, None));
+    assert_eq!(by(&[500, 250]), all(1, 0, 1, other(0, 500, half, 499.0)));
+    assert_eq!(by(&[499, 251]), all(1, 0, 1, other(1, 251, None, 250.0)));
+    assert_eq!(by(&[0, 0]), all(0, 0, 2, other(0, 0, half, 499.0)));
+    // the last advance width is that of all glyphs behind it
+    assert_eq!(by(&[499]), all(1, 0, 1, other(1, 499, None, 250.0)));
+    assert_eq!(by(&[]), all(0, 0, 0, None));
+}
+
+#[test]
+fn a_width_that_is_not_whole_is_rounded_in_hmtx() {
+    let glyph: &[u8] = &[0xFF, 0x00, 0x64, 0x80, 0x00, 0x0E];
+    let by = |more: &[u8], advance| {
+        let Widths {
+            agree,
+            rounded,
+            differ,
+            ..
+        } = widths(&font_by_widths(&[glyph], more, &[advance]));
+        [agree, rounded, differ]
+    };
+    // 100.5 by itself; more than -5E-1, .25E1 and 25E-1; and more than a real that is none
+    assert_eq!(by(&[], 99), [0, 0, 1]);
+    assert_eq!(by(&[], 100), [0, 1, 0]);
+    assert_eq!(by(&[], 101), [0, 1, 0]);
+    assert_eq!(by(&[30, 0xE5, 0xC1, 0xFF, 21], 100), [1, 0, 0]);
+    assert_eq!(by(&[30, 0xA2, 0x5B, 0x1F, 21], 103), [1, 0, 0]);
+    assert_eq!(by(&[30, 0x25, 0xC1, 0xFF, 21], 103), [1, 0, 0]);
+    assert_eq!(by(&[30, 0x1A, 0x2A, 0x3F, 21], 101), [0, 0, 1]);
+}
+
+#[test]
+fn a_glyph_goes_by_its_own_widths() {
+    let (hhea, hmtx) = metrics(&[20, 10, 10]);
+    let by = |select: &[u8]| {
+        let tables: [(&[u8; 4], &[u8]); 3] = [
+            (b"CFF ", &cid_table(select)),
+            (b"hhea", &hhea),
+            (b"hmtx", &hmtx),
+        ];
+        let widths = widths(&file(&tables));
+        [widths.said, widths.agree, widths.differ]
+    };
+    assert_eq!(by(&[0, 1, 0, 0]), [0, 2, 0]);
+    assert_eq!(by(&[0, 0, 0, 0]), [0, 1, 1]);
+}
+
+#[test]
+fn widths_are_told() {
+    let text = |advances| plain(&font_by_widths(&WIDE, &WIDTHS, advances)).to_string();
+    let ends = |advances, lines| assert!(text(advances).ends_with(lines), "{}", text(advances));
+    let agree =
+        "  widths: 1 say one of their own; 2 are as in hmtx, 0 so once rounded, 0 are not\n";
+    ends(&[499, 250], agree);
+    let other = "\n  the first that is not: glyph 0, 7 in hmtx, 499 by nominalWidthX and -0.5\n";
+    ends(&[7, 250], other);
+    let other = "\n  the first that is not: glyph 1, 7 in hmtx, 250 by defaultWidthX\n";
+    ends(&[499, 7], other);
+}
+
+#[test]
+fn a_collection_has_several_fonts() {
+    // its fonts are the same, at place 20
+    let font = font_with(&index(&GLYPHS[..2]), &index(&[]));
+    let collection = |font: &[u8]| {
+        let mut font = font.to_vec();
+        font[20..24].copy_from_slice(&48u32.to_be_bytes());
+        [
+            &b"ttcf"[..],
+            &[0, 1, 0, 0],
+            &[0, 0, 0, 2],
+            &[0, 0, 0, 20, 0, 0, 0, 20],
+            &font,
+        ]
+        .concat()
+    };
+    let file = collection(&font);
+    let glyphs = |number| flatten(&file, number, Profile::Plain).map(|report| report.glyphs);
+    assert_eq!((glyphs(0), glyphs(1)), (Ok(2), Ok(2)));
+    assert_eq!(glyphs(2).unwrap_err(), "it has no font 2");
+    let why = flatten(&font, 1, Profile::Plain).unwrap_err();
+    assert_eq!(why, "it is no collection");
 }
