@@ -217,7 +217,7 @@ fn a_place_that_is_not_given_is_left() {
 #[test]
 fn a_refusal_says_no_width() {
     let refused = |charstring: &[u8], locals: &[u8], profile, number| {
-        // it has a width, unless a call's index or an operand stands before
+        // by itself, and behind an operator that has settled a width
         let wide = [&[0x8C, 0x8D, 0x16], charstring].concat();
         for charstring in [charstring, &wide] {
             let told = places(charstring, locals, [profile, AMPLE], ROOM);
