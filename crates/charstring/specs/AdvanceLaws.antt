@@ -2,10 +2,10 @@
 use mathlib.Core.Path.{_≡_, refl, sym, ap, _∙_}
 use mathlib.Core.Bool.{Bool, true, false, cond}
 use mathlib.Core.List.{List}
-use Prim.Native.Nat.{ℕ, zero, suc, _<_, zero-le}
+use Prim.Native.Nat.{ℕ, zero, suc, _<_, _≤_, zero-le}
 use native.Mathlib.Omega.{arith}
 use lib.ListN.{getD}
-use borrow.Author.Tests.{le-ltb}
+use borrow.Author.Tests.{le-ltb, lt-ltb, eq-eqb, ne-eqb}
 use Rattle.number.specs.declared.Operand.{Operand}
 use Rattle.reading.specs.Items.{spare, bottom, said}
 use Rattle.reading.specs.declared.Takes.{Takes}
@@ -42,15 +42,15 @@ pub says-none : (takes : Takes) (l : List ℕ) (n : ℕ) → spare takes n ≡ f
 says-none takes l n e = sym (said-of takes l n ∙ ap (λ (b : Bool). cond b (bottom (stackOf l n)) Default) e)
 
 -- the first operator settles it
-pub first-settles : (takes : Takes) (l : List ℕ) (s : State) → s .settled ≡ false → said takes (stackOf l (s .count)) ≡ settledAt takes l s
-first-settles takes l s e = sym (ap (λ (b : Bool). cond b (heldBy s) (said takes (stackOf l (s .count)))) e)
+pub first-settles : (takes : Takes) (l : List ℕ) (s : State) → s .said ≤ 0 → said takes (stackOf l (s .count)) ≡ settledAt takes l s
+first-settles takes l s h = sym (ap (λ (b : Bool). cond b (heldBy s) (said takes (stackOf l (s .count)))) (le-ltb 0 (s .said) h))
 
 -- a later one lets be what the state holds
-pub settled-stays : (takes : Takes) (l : List ℕ) (s : State) → s .settled ≡ true → heldBy s ≡ settledAt takes l s
-settled-stays takes l s e = sym (ap (λ (b : Bool). cond b (heldBy s) (said takes (stackOf l (s .count)))) e)
+pub settled-stays : (takes : Takes) (l : List ℕ) (s : State) → 0 < s .said → heldBy s ≡ settledAt takes l s
+settled-stays takes l s h = sym (ap (λ (b : Bool). cond b (heldBy s) (said takes (stackOf l (s .count)))) (lt-ltb 0 (s .said) h))
 
-pub holds-one : (s : State) {o : Operand} → o ≡ unpackOf (s .word) → s .given ≡ true → Given o ≡ heldBy s
-holds-one s e g = ap Given e ∙ sym (ap (λ (b : Bool). cond b (Given (unpackOf (s .word))) Default) g)
+pub holds-one : (s : State) {o : Operand} → o ≡ unpackOf (s .word) → s .said ≡ 2 → Given o ≡ heldBy s
+holds-one s e g = ap Given e ∙ sym (ap (λ (b : Bool). cond b (Given (unpackOf (s .word))) Default) (eq-eqb (s .said) 2 g))
 
-pub holds-none : (s : State) → s .given ≡ false → Default ≡ heldBy s
-holds-none s g = sym (ap (λ (b : Bool). cond b (Given (unpackOf (s .word))) Default) g)
+pub holds-none : (s : State) → (s .said ≡ 2 → ⊥) → Default ≡ heldBy s
+holds-none s g = sym (ap (λ (b : Bool). cond b (Given (unpackOf (s .word))) Default) (ne-eqb (s .said) 2 g))

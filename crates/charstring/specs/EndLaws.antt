@@ -13,10 +13,10 @@ use Rattle.reading.specs.StepLaws.{returns, ends}
 use Rattle.reading.specs.Answers.{numberOf}
 use Rattle.reading.specs.declared.Refusal.{Refusal}
 use Rattle.reading.specs.declared.Operator.{Operator}
-use Rattle.charstring.specs.declared.advance.Said.{Said}
+use Rattle.charstring.specs.declared.advance.Settled.{Settled}
 use Rattle.reading.specs.declared.Kind.{Kind}
 use Rattle.reading.specs.declared.Kind.the-variants.{Return, End}
-use Rattle.charstring.specs.Words.{saidOf}
+use Rattle.charstring.specs.Words.{settledAs}
 use Rattle.charstring.specs.WordsLaws.{sets-begins}
 use Rattle.charstring.specs.States.{returned, finished}
 use Rattle.charstring.specs.Run.{AtOperator, Refuses, Begins, Holds, Repr, howOf, settledAt, Setup, whole, Here, Done}
@@ -98,8 +98,8 @@ module _ (u : Setup) (stack out : List ℕ) (s : State) (i : ℕ) (h : Here u st
           on = λ z. subst (Repr (u .rules) stack out (returned s)) (sym same) now-back;
         }
 
-    pub by-end : (length₁ : ℕ) (w : Said) (out₁ : List ℕ) → u .rules .kind p ≡ End → s .count < 4
-        → saidOf w ≡ settledAt (u .rules .takes p) stack s → out₁ ≡ sets out (s .length) (operatorBytes p)
+    pub by-end : (length₁ : ℕ) (w : Settled) (out₁ : List ℕ) → u .rules .kind p ≡ End → s .count < 4
+        → settledAs w ≡ settledAt (u .rules .takes p) stack s → out₁ ≡ sets out (s .length) (operatorBytes p)
         → length₁ ≡ s .length + length (operatorBytes p) → EndsWith Ended (finished s length₁ w) out₁
     unfolding struck flat spelled
     by-end length₁ w out₁ k l v d long =

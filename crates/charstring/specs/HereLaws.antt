@@ -3,6 +3,7 @@ use mathlib.Core.Path.{_≡_, refl, sym, ap, subst, _∙_}
 use mathlib.Core.Bool.{Bool, cond}
 use mathlib.Core.List.{List, [], _∷_}
 use Prim.Native.Nat.{ℕ, zero, suc, _-_, _*_, _≤_, _<_, zero-le}
+use lib.Dec.{ltb}
 use native.Mathlib.Nat.{le-refl, mul-le-mul}
 use native.Mathlib.Omega.{arith}
 use lib.ListN.{length, drop, length-drop}
@@ -39,8 +40,8 @@ pub settled-so : (takes : Takes) (stack : List ℕ) (s : State) (x : Left) → H
     → cond (x .settled) (x .advance) (said takes (x .operands)) ≡ settledAt takes stack s
 settled-so takes stack s x q =
     ap (λ (b : Bool). cond b (x .advance) (said takes (x .operands))) (q .settled-is)
-    ∙ ap (λ (w : Advance). cond (s .settled) w (said takes (x .operands))) (q .advance-is)
-    ∙ ap (λ (ops : List Operand). cond (s .settled) (heldBy s) (said takes ops)) (q .ops)
+    ∙ ap (λ (w : Advance). cond (ltb 0 (s .said)) w (said takes (x .operands))) (q .advance-is)
+    ∙ ap (λ (ops : List Operand). cond (ltb 0 (s .said)) (heldBy s) (said takes ops)) (q .ops)
 
 module _ (rules : Rules) (stack out : List ℕ) (s : State) (t : Now) (r : Repr rules stack out s t) where
   pub counts-of : Counts t s

@@ -4,7 +4,7 @@ use mathlib.Core.Bool.{true, cond}
 use mathlib.Core.Logic.{_⊎_}
 use mathlib.Core.List.{List, [], _∷_, _++_}
 use Prim.Native.Nat.{ℕ, zero, suc, _+_, _-_, _/_, _≤_, _<_}
-use lib.Dec.{leb}
+use lib.Dec.{leb, ltb}
 use lib.ListN.{length, getD, drop}
 use Rattle.number.specs.Number.{charstringRows}
 use Rattle.number.specs.Written.{spelling}
@@ -144,7 +144,7 @@ pub record Holds (stack : List ℕ) (s : State) (x : Left) : Type 0 where
   pub ops : x .operands ≡ stackOf stack (s .count)
   pub hints-are : x .hints ≡ s .hints
   pub mask-is : x .mask ≡ s .mask
-  pub settled-is : x .settled ≡ s .settled
+  pub settled-is : x .settled ≡ ltb 0 (s .said)
   pub advance-is : x .advance ≡ heldBy s
 
 pub record Repr (rules : Rules) (stack out : List ℕ) (s : State) (t : Now) : Type 0 where
@@ -164,7 +164,7 @@ howOf (Refused k) = stopped (numberOf k)
 
 -- the advance width behind an operator that takes so many operands, as the code settles it or lets it be
 abbrev pub settledAt : Takes → List ℕ → State → Advance
-settledAt takes stack s = cond (s .settled) (heldBy s) (said takes (stackOf stack (s .count)))
+settledAt takes stack s = cond (ltb 0 (s .said)) (heldBy s) (said takes (stackOf stack (s .count)))
 
 -- ---- a string and what it is run with
 

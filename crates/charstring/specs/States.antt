@@ -1,11 +1,10 @@
--- How each token changes the code's running state. Below, length is that of the flat string, and said what the operator settles or lets be.
-use mathlib.Core.Bool.{true, false}
+-- How each token changes the code's running state. Below, length is that of the flat string, and settled the advance width, which an operator settles or lets be.
 use Prim.Native.Nat.{ℕ, _+_, _-_}
-use Rattle.charstring.specs.declared.advance.Said.{Said}
+use Rattle.charstring.specs.declared.advance.Settled.{Settled}
 use Rattle.charstring.specs.declared.state.State.{State}
 
 abbrev pub begun : State
-begun = record { count = 0; tail = 0; hints = 0; mask = 0; tokens = 0; length = 0; settled = false; given = false; word = 0 }
+begun = record { count = 0; tail = 0; hints = 0; mask = 0; tokens = 0; length = 0; said = 0; word = 0 }
 
 -- with so many operands, as many of them last, and another length; a token more
 abbrev moved : State → ℕ → ℕ → ℕ → State
@@ -17,8 +16,7 @@ moved s count tail length =
       mask = s .mask;
       tokens = s .tokens + 1;
       length = length;
-      settled = s .settled;
-      given = s .given;
+      said = s .said;
       word = s .word;
     }
 
@@ -35,8 +33,8 @@ abbrev pub entered : State → ℕ → State
 entered s size = moved s (s .count - 1) (s .tail - 1) (s .length - size)
 
 -- behind a mask of `mask` bytes
-abbrev pub masked : State → ℕ → ℕ → ℕ → ℕ → Said → State
-masked s count hints mask length said =
+abbrev pub masked : State → ℕ → ℕ → ℕ → ℕ → Settled → State
+masked s count hints mask length settled =
     record {
       count = count;
       tail = 0;
@@ -44,15 +42,14 @@ masked s count hints mask length said =
       mask = mask;
       tokens = s .tokens + 1;
       length = length;
-      settled = true;
-      given = said .given;
-      word = said .word;
+      said = settled .said;
+      word = settled .word;
     }
 
 -- behind an operator that clears the stack
-abbrev pub cleared : State → ℕ → ℕ → Said → State
-cleared s hints length said = masked s 0 hints (s .mask) length said
+abbrev pub cleared : State → ℕ → ℕ → Settled → State
+cleared s hints length settled = masked s 0 hints (s .mask) length settled
 
 -- behind an endchar
-abbrev pub finished : State → ℕ → Said → State
-finished s length said = masked s (s .count) (s .hints) (s .mask) length said
+abbrev pub finished : State → ℕ → Settled → State
+finished s length settled = masked s (s .count) (s .hints) (s .mask) length settled

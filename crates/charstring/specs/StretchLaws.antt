@@ -13,11 +13,11 @@ use Rattle.number.specs.declared.Operand.{Operand}
 use Rattle.reading.specs.Rules.{type2Takes, meant}
 use Rattle.reading.specs.Flat.{operatorBytes}
 use Rattle.reading.specs.SizeLaws.{longestItem}
-use Rattle.charstring.specs.declared.advance.Said.{Said}
+use Rattle.charstring.specs.declared.advance.Settled.{Settled}
 use Rattle.reading.specs.declared.Refusal.{Refusal}
 use Rattle.reading.specs.declared.Operator.{Operator}
 use Rattle.reading.specs.declared.Which.{Which}
-use Rattle.charstring.specs.Words.{unpackOf, shortOf, saidOf}
+use Rattle.charstring.specs.Words.{unpackOf, shortOf, settledAs}
 use Rattle.charstring.specs.WordsLaws.{sets-append}
 use Rattle.charstring.specs.States.{pushed, cleared, masked, returned, finished}
 use Rattle.charstring.specs.Run.{Looked, settledAt, Setup, Here, Roomy, Ground, upon, Standing, StretchesTo}
@@ -116,14 +116,14 @@ module _ (cs : List ℕ) (by : Limits) (stack₀ out₀ : List ℕ) (s₀ : Stat
         (λ g y. by-push (upon cs by g) stack out s i (h .stands g y) words (shortOf b x) j w (a .1 .others) out₁ e (a .0) v
         (d ∙ ap (λ (bs : List ℕ). sets out (s .length) bs) (a .1 .bytes)) (q ∙ ap (λ (n : ℕ). s .length + n) (sym (a .1 .long))))
 
-    pub arm-clear : (p : Operator) (j x e : ℕ) (w : Said) (out₁ : List ℕ) (s₁ : State) → Asks (Clears j x p)
-        → saidOf w ≡ settledAt (type2Takes p) stack s → out₁ ≡ sets out (s .length) (operatorBytes p)
+    pub arm-clear : (p : Operator) (j x e : ℕ) (w : Settled) (out₁ : List ℕ) (s₁ : State) → Asks (Clears j x p)
+        → (settledAs w ≡ settledAt (type2Takes p) stack s) × (0 < w .said) → out₁ ≡ sets out (s .length) (operatorBytes p)
         → e ≡ s .length + length (operatorBytes p) → s₁ ≡ cleared s x e w → Stands stack out₁ s₁ j
     arm-clear p j x e w out₁ s₁ a v d q same =
         becomes _ _ _ _ j same (λ g y. by-clear (upon cs by g) stack out s i (h .stands g y) words p j x e w out₁ (a .0) (a .1) v d q)
 
-    pub arm-mask : (p : Operator) (b d c x e₁ e : ℕ) (w : Said) (out₁ out₂ : List ℕ) (s₁ : State)
-        → Asks (Masks b d c x p) → saidOf w ≡ settledAt (type2Takes p) stack s → out₁ ≡ sets out (s .length) (operatorBytes p)
+    pub arm-mask : (p : Operator) (b d c x e₁ e : ℕ) (w : Settled) (out₁ out₂ : List ℕ) (s₁ : State)
+        → Asks (Masks b d c x p) → (settledAs w ≡ settledAt (type2Takes p) stack s) × (0 < w .said) → out₁ ≡ sets out (s .length) (operatorBytes p)
         → e₁ ≡ s .length + length (operatorBytes p) → out₂ ≡ sets out₁ e₁ (take (d - b) (drop b cs))
         → e ≡ e₁ + length (take (d - b) (drop b cs))
         → s₁ ≡ masked s c x (d - b) e w → Stands stack out₂ s₁ d
@@ -157,8 +157,8 @@ module _ (cs : List ℕ) (by : Limits) (stack₀ out₀ : List ℕ) (s₀ : Stat
     unfolding StretchesTo
     arm-return r e a = given r _ out e (λ g y. by-return (upon cs by g) stack out s i (h .stands g y) (a .0) (a .1) (a .2) (a .3))
 
-    pub arm-end : (p : Operator) (n : ℕ) (w : Said) (out₁ : List ℕ) (r : Stretched) → r ≡ record { st = finished s n w; stop = Finished Ended }
-        → Asks (Ends p) → saidOf w ≡ settledAt (type2Takes p) stack s → out₁ ≡ sets out (s .length) (operatorBytes p)
+    pub arm-end : (p : Operator) (n : ℕ) (w : Settled) (out₁ : List ℕ) (r : Stretched) → r ≡ record { st = finished s n w; stop = Finished Ended }
+        → Asks (Ends p) → settledAs w ≡ settledAt (type2Takes p) stack s → out₁ ≡ sets out (s .length) (operatorBytes p)
         → n ≡ s .length + length (operatorBytes p) → Gives r out₁
     unfolding StretchesTo
     arm-end p n w out₁ r e a v d q =

@@ -1,6 +1,5 @@
 -- A token that is no call and leads on, in the reading's words: an operand, an operator that clears the stack, a mask. Assumes nothing.
 use mathlib.Core.Path.{_≡_, refl, sym, ap, subst, _∙_}
-use mathlib.Core.Bool.{true}
 use mathlib.Core.List.{List, [], _∷_, _++_, append-assoc}
 use mathlib.Core.Logic.{inl, inr}
 use Prim.Native.Nat.{ℕ, _+_, _-_, _/_, _≤_, _<_, zero-le}
@@ -8,7 +7,8 @@ use native.Mathlib.Numerals.{add-one}
 use native.Mathlib.Omega.{arith}
 use lib.ListN.{length, set, take, drop, length-append, length-drop, length-set}
 use lib.Seq.{sets, drop-drop, length-take-le}
-use borrow.Author.Tests.{eq-eqb, ne-eqb}
+use lib.Dec.{ltb}
+use borrow.Author.Tests.{eq-eqb, ne-eqb, lt-ltb}
 use Rattle.number.specs.Number.{charstringRows}
 use Rattle.number.specs.Written.{spelling}
 use Rattle.number.specs.declared.Operand.{Operand}
@@ -22,14 +22,14 @@ use Rattle.reading.specs.Valid.{Good}
 use Rattle.reading.specs.declared.Operator.{Operator}
 use Rattle.reading.specs.declared.Kind.{Kind}
 use Rattle.reading.specs.declared.Kind.the-variants.{Stem, Clear, Mask}
-use Rattle.charstring.specs.Words.{unpackOf, stackOf, saidOf, heldBy}
+use Rattle.charstring.specs.Words.{unpackOf, stackOf, settledAs, heldBy}
 use Rattle.charstring.specs.WordsLaws.{sets-begins, begins-cut, stack-pushed}
 use Rattle.charstring.specs.States.{pushed, cleared, masked}
 use Rattle.charstring.specs.Run.{AtOperator, Hinted, stays, counts, Light, MaskFixed, first, later, Pushes, Begins, tailOf}
 use Rattle.charstring.specs.Run.{Holds, Repr, settledAt, Setup, Here}
 use Rattle.charstring.specs.LookLaws.{over-none}
 use Rattle.charstring.specs.HereLaws.{settled-so, counted-as, taken, led, Leads, goes-on}
-use Rattle.charstring.specs.declared.advance.Said.{Said}
+use Rattle.charstring.specs.declared.advance.Settled.{Settled}
 use Rattle.charstring.specs.declared.state.State.{State}
 
 -- ---- an item is shown and stored
@@ -112,21 +112,21 @@ module _ (u : Setup) (stack out : List ℕ) (s : State) (i : ℕ) (h : Here u st
     Leaves k y = leaves (u .rules) k (h .now .left) ≡ settling (u .rules .takes p) (h .now .left) y
 
     -- w is that width, as the code makes it
-    abbrev Settles : Said → Type 0
-    Settles w = saidOf w ≡ settledAt (u .rules .takes p) stack s
+    abbrev Settles : Settled → Type 0
+    Settles w = (settledAs w ≡ settledAt (u .rules .takes p) stack s) × (0 < w .said)
 
     -- so the code holds it
-    settles : (w : Said) (stack₁ : List ℕ) (s₁ : State) (y : Left) → Settles w
+    settles : (w : Settled) (stack₁ : List ℕ) (s₁ : State) (y : Left) → Settles w
         → y .operands ≡ stackOf stack₁ (s₁ .count) → y .hints ≡ s₁ .hints → y .mask ≡ s₁ .mask
-        → true ≡ s₁ .settled → saidOf w ≡ heldBy s₁
+        → w .said ≡ s₁ .said → settledAs w ≡ heldBy s₁
         → Holds stack₁ s₁ (settling (u .rules .takes p) (h .now .left) y)
     settles w stack₁ s₁ y v ops hs ms done is =
         record {
           ops = ops;
           hints-are = hs;
           mask-is = ms;
-          settled-is = done;
-          advance-is = settled-so (u .rules .takes p) stack s (h .now .left) (h .repr .held) ∙ sym v ∙ is;
+          settled-is = sym (lt-ltb 0 (w .said) (v .1)) ∙ ap (ltb 0) done;
+          advance-is = settled-so (u .rules .takes p) stack s (h .now .left) (h .repr .held) ∙ sym (v .0) ∙ is;
         }
 
     leaves-kind : (k : Kind) → u .rules .kind p ≡ k → leaves (u .rules) (bare p) (h .now .left) ≡ byKind (u .rules .takes p) k (h .now .left)
@@ -134,7 +134,7 @@ module _ (u : Setup) (stack out : List ℕ) (s : State) (i : ℕ) (h : Here u st
     leaves-kind k e = ap (λ (y : Kind). byKind (u .rules .takes p) y (h .now .left)) e
 
     -- one that clears the stack
-    clear-turn : (j hints length₁ : ℕ) (w : Said) (y : Left) (out₁ : List ℕ) → AtOperator (u .cs) i j (s .tokens) (u .budget) p
+    clear-turn : (j hints length₁ : ℕ) (w : Settled) (y : Left) (out₁ : List ℕ) → AtOperator (u .cs) i j (s .tokens) (u .budget) p
         → Leaves (bare p) y → Leads u stack out s i h (go (drop j (u .cs)) (shows (u .rules) (bare p) (h .now))) → Settles w
         → out₁ ≡ sets out (s .length) (operatorBytes p) → length₁ ≡ s .length + length (operatorBytes p)
         → y .operands ≡ [] → y .hints ≡ hints → hints ≤ u .rules .hints → y .mask ≡ s .mask
@@ -147,7 +147,7 @@ module _ (u : Setup) (stack out : List ℕ) (s : State) (i : ℕ) (h : Here u st
         (stored (u .rules) stack out s (h .now) (h .repr) (operatorBytes p) out₁ d) zero-le
         (settles w stack (cleared s hints length₁ w) y v ops hs mask refl refl) hinted refl refl long)
 
-    pub by-clear : (j hints length₁ : ℕ) (w : Said) (out₁ : List ℕ) → AtOperator (u .cs) i j (s .tokens) (u .budget) p
+    pub by-clear : (j hints length₁ : ℕ) (w : Settled) (out₁ : List ℕ) → AtOperator (u .cs) i j (s .tokens) (u .budget) p
         → Hinted (u .rules) s p hints → Settles w → out₁ ≡ sets out (s .length) (operatorBytes p)
         → length₁ ≡ s .length + length (operatorBytes p) → Here u stack out₁ (cleared s hints length₁ w) j
     unfolding byKind
@@ -164,7 +164,7 @@ module _ (u : Setup) (stack out : List ℕ) (s : State) (i : ℕ) (h : Here u st
     abbrev now-fixed : Left
     now-fixed = atMask (h .now .left)
 
-    mask-turn : (a b c hints length₁ : ℕ) (w : Said) (out₁ : List ℕ) → AtOperator (u .cs) i a (s .tokens) (u .budget) p
+    mask-turn : (a b c hints length₁ : ℕ) (w : Settled) (out₁ : List ℕ) → AtOperator (u .cs) i a (s .tokens) (u .budget) p
         → u .rules .kind p ≡ Mask → Settles w → Light (u .rules) s → hints ≤ u .rules .hints → a ≤ b → b ≤ length (u .cs)
         → out₁ ≡ sets out (s .length) (operatorBytes p ++ take (b - a) (drop a (u .cs))) → length₁ ≡ s .length + length (operatorBytes p) + (b - a)
         → c ≤ length stack → now-fixed .operands ≡ stackOf stack c → now-fixed .hints ≡ hints → now-fixed .mask ≡ b - a
@@ -189,7 +189,7 @@ module _ (u : Setup) (stack out : List ℕ) (s : State) (i : ℕ) (h : Here u st
         (settles w stack (masked s c hints (b - a) length₁ w) now-fixed v ops hs ms refl refl) most refl refl
         (let e = length-append (operatorBytes p) m in omega arith))
 
-    pub by-mask : (a b c hints length₁ : ℕ) (w : Said) (out₁ : List ℕ) → AtOperator (u .cs) i a (s .tokens) (u .budget) p
+    pub by-mask : (a b c hints length₁ : ℕ) (w : Settled) (out₁ : List ℕ) → AtOperator (u .cs) i a (s .tokens) (u .budget) p
         → u .rules .kind p ≡ Mask → hints ≤ u .rules .hints → a ≤ b → b ≤ length (u .cs) → MaskFixed (u .rules) s c hints (b - a)
         → Settles w → out₁ ≡ sets out (s .length) (operatorBytes p ++ take (b - a) (drop a (u .cs)))
         → length₁ ≡ s .length + length (operatorBytes p) + (b - a) → Here u stack out₁ (masked s c hints (b - a) length₁ w) b

@@ -1,8 +1,8 @@
 -- What the code holds, in the reading's words.
-use mathlib.Core.Bool.{Bool, false, cond}
+use mathlib.Core.Bool.{false, cond}
 use mathlib.Core.List.{List, [], _∷_}
 use Prim.Native.Nat.{ℕ, zero, suc, _-_, _/_, _%_, _^_, _≤_, _<_}
-use lib.Dec.{leb, ltb}
+use lib.Dec.{eqb, leb, ltb}
 use lib.IntN.{pos}
 use lib.ListN.{getD, drop}
 use Rattle.number.specs.Answer.{Answer, accepted, refused, alone}
@@ -18,7 +18,7 @@ use Rattle.reading.specs.Reading.{admitted}
 use Rattle.reading.specs.Answers.{numberOf}
 use Rattle.reading.specs.declared.Advance.{Advance}
 use Rattle.reading.specs.declared.Advance.the-variants.{Default, Given}
-use Rattle.charstring.specs.declared.advance.Said.{Said}
+use Rattle.charstring.specs.declared.advance.Settled.{Settled}
 use Rattle.charstring.specs.declared.state.State.{State}
 use Rattle.charstring.specs.declared.token.Token.{Token}
 use Rattle.charstring.specs.declared.token.Token.the-variants.{Number, Operator, Lacking}
@@ -58,15 +58,15 @@ unfoldable pub stackOf : List ℕ → ℕ → List Operand
 stackOf l zero = []
 stackOf l (suc n) = unpackOf (getD l n 0) ∷ stackOf l n
 
--- the advance width as an operator says it, and as the state holds it
-abbrev saidBy : Bool → ℕ → Advance
-saidBy given w = cond given (Given (unpackOf w)) Default
+-- the advance width as an operator settles it, and as the state holds it: 2 for the one that the word holds
+abbrev saidBy : ℕ → ℕ → Advance
+saidBy n w = cond (eqb n 2) (Given (unpackOf w)) Default
 
-abbrev pub saidOf : Said → Advance
-saidOf x = saidBy (x .given) (x .word)
+abbrev pub settledAs : Settled → Advance
+settledAs x = saidBy (x .said) (x .word)
 
 abbrev pub heldBy : State → Advance
-heldBy s = saidBy (s .given) (s .word)
+heldBy s = saidBy (s .said) (s .word)
 
 -- ---- the entry that a call enters
 

@@ -1,5 +1,5 @@
-// The advance width: the first operator that clears the stack settles it. The state has it as plain
-// numbers, for an enum there would be copied at every token.
+// The advance width: the first operator that clears the stack settles it. The state has it as two
+// numbers, which a token that is no such operator leaves where they are.
 use crate::argstack::unpack;
 use crate::operator::takes_of;
 use crate::state::State;
@@ -7,27 +7,28 @@ use reading::Advance;
 use reading::Operator;
 use reading::Takes;
 ghost use mathlib.Core.Path.{_≡_};
-ghost use Prim.Native.Nat.{_≤_};
+ghost use Prim.Native.Nat.{_≤_, _<_};
 ghost use lib.ListN.{length};
 ghost use Rattle.reading.specs.Rules.{type2Takes};
 ghost use Rattle.reading.specs.Items.{spare, said};
-ghost use Rattle.charstring.specs.Words.{stackOf, saidOf, heldBy};
+ghost use Rattle.charstring.specs.Words.{stackOf, settledAs, heldBy};
 ghost use Rattle.charstring.specs.Run.{settledAt};
 
-// Whether a width is given, and then the word that holds it.
-pub(crate) struct Said {
-    pub given: bool,
+// A width that is settled: 1 for none, or 2 for the one that the word holds.
+pub(crate) struct Settled {
+    pub said: u32,
     pub word: u64,
 }
 
-// What is said behind the operator p, which found this state.
-pub(crate) fn advance_at(p: Operator, s: State, stack: &[u64]) -> Said
+// What is settled behind the operator p, which found this state.
+pub(crate) fn advance_at(p: Operator, s: State, stack: &[u64]) -> Settled
     requires { ⌜ s .count ≤ length (now stack) ⌝ }
-    ensures { λ r. ⌜ saidOf r ≡ settledAt (type2Takes p) (now (stack .entry)) s ⌝ }
+    ensures { λ r. ⌜ settledAs r ≡ settledAt (type2Takes p) (now (stack .entry)) s ⌝ }
+    ensures { λ r. ⌜ 0 < r .said ⌝ }
 {
-    if s.settled {
-        return Said {
-            given: s.given,
+    if 0 < s.said {
+        return Settled {
+            said: s.said,
             word: s.word,
         };
     }
@@ -35,18 +36,16 @@ pub(crate) fn advance_at(p: Operator, s: State, stack: &[u64]) -> Said
 }
 
 // What p says of so many operands.
-fn said_at(p: Operator, count: usize, stack: &[u64]) -> Said
+fn said_at(p: Operator, count: usize, stack: &[u64]) -> Settled
     requires { ⌜ count ≤ length (now stack) ⌝ }
-    ensures { λ r. ⌜ saidOf r ≡ said (type2Takes p) (stackOf (now (stack .entry)) count) ⌝ }
+    ensures { λ r. ⌜ settledAs r ≡ said (type2Takes p) (stackOf (now (stack .entry)) count) ⌝ }
+    ensures { λ r. ⌜ 0 < r .said ⌝ }
 {
     if exceeds(count, takes_of(p)) {
         let word = stack[0];
-        return Said { given: true, word };
+        return Settled { said: 2, word };
     }
-    Said {
-        given: false,
-        word: 0,
-    }
+    Settled { said: 1, word: 0 }
 }
 
 // Whether so many operands are more than an operator takes.
@@ -64,7 +63,7 @@ fn exceeds(count: usize, takes: Takes) -> bool
 pub(crate) fn advance_of(s: State) -> Advance
     ensures { λ r. ⌜ r ≡ heldBy s ⌝ }
 {
-    if s.given {
+    if s.said == 2 {
         return Advance::Given(unpack(s.word));
     }
     Advance::Default

@@ -1,5 +1,5 @@
 // The running state, but for the operands, which stand in the lent stack, and how each token changes it.
-use crate::advance::Said;
+use crate::advance::Settled;
 ghost use mathlib.Core.Path.{_≡_};
 ghost use Prim.Native.Nat.{_+_, _<_, _≤_};
 ghost use Rattle.charstring.specs.States.{begun, pushed, cleared, masked, returned, finished, entered};
@@ -16,10 +16,8 @@ pub(crate) struct State {
     pub tokens: u32,
     // The length of the flat string.
     pub length: usize,
-    // Whether an operator has settled the advance width.
-    pub settled: bool,
-    // Whether one is given, and then the word that holds it.
-    pub given: bool,
+    // 0 until an operator settles the advance width; then 1 for none, and 2 for the one that the word holds.
+    pub said: u32,
     pub word: u64,
 }
 
@@ -34,8 +32,7 @@ pub(crate) fn at_start() -> State
         mask: 0,
         tokens: 0,
         length: 0,
-        settled: false,
-        given: false,
+        said: 0,
         word: 0,
     }
 }
@@ -52,16 +49,15 @@ pub(crate) fn push(s: State, length: usize) -> State
         mask: s.mask,
         tokens: s.tokens + 1,
         length,
-        settled: s.settled,
-        given: s.given,
+        said: s.said,
         word: s.word,
     }
 }
 
 // Behind an operator that clears the stack, with so many hints, and what is said of the advance width.
-pub(crate) fn clear(s: State, hints: usize, length: usize, said: Said) -> State
+pub(crate) fn clear(s: State, hints: usize, length: usize, settled: Settled) -> State
     requires { ⌜ s .tokens < 4294967295 ⌝ }
-    ensures { λ r. ⌜ r ≡ cleared s hints length said ⌝ }
+    ensures { λ r. ⌜ r ≡ cleared s hints length settled ⌝ }
 {
     State {
         count: 0,
@@ -70,9 +66,8 @@ pub(crate) fn clear(s: State, hints: usize, length: usize, said: Said) -> State
         mask: s.mask,
         tokens: s.tokens + 1,
         length,
-        settled: true,
-        given: said.given,
-        word: said.word,
+        said: settled.said,
+        word: settled.word,
     }
 }
 
@@ -83,10 +78,10 @@ pub(crate) fn mask(
     hints: usize,
     bytes: usize,
     length: usize,
-    said: Said,
+    settled: Settled,
 ) -> State
     requires { ⌜ s .tokens < 4294967295 ⌝ }
-    ensures { λ r. ⌜ r ≡ masked s count hints bytes length said ⌝ }
+    ensures { λ r. ⌜ r ≡ masked s count hints bytes length settled ⌝ }
 {
     State {
         count,
@@ -95,9 +90,8 @@ pub(crate) fn mask(
         mask: bytes,
         tokens: s.tokens + 1,
         length,
-        settled: true,
-        given: said.given,
-        word: said.word,
+        said: settled.said,
+        word: settled.word,
     }
 }
 
@@ -113,16 +107,15 @@ pub(crate) fn go_back(s: State) -> State
         mask: s.mask,
         tokens: s.tokens + 1,
         length: s.length,
-        settled: s.settled,
-        given: s.given,
+        said: s.said,
         word: s.word,
     }
 }
 
 // Behind an endchar.
-pub(crate) fn finish(s: State, length: usize, said: Said) -> State
+pub(crate) fn finish(s: State, length: usize, settled: Settled) -> State
     requires { ⌜ s .tokens < 4294967295 ⌝ }
-    ensures { λ r. ⌜ r ≡ finished s length said ⌝ }
+    ensures { λ r. ⌜ r ≡ finished s length settled ⌝ }
 {
     State {
         count: s.count,
@@ -131,9 +124,8 @@ pub(crate) fn finish(s: State, length: usize, said: Said) -> State
         mask: s.mask,
         tokens: s.tokens + 1,
         length,
-        settled: true,
-        given: said.given,
-        word: said.word,
+        said: settled.said,
+        word: settled.word,
     }
 }
 
@@ -149,8 +141,7 @@ pub(crate) fn enter(s: State, size: usize) -> State
         mask: s.mask,
         tokens: s.tokens + 1,
         length: s.length - size,
-        settled: s.settled,
-        given: s.given,
+        said: s.said,
         word: s.word,
     }
 }

@@ -70,8 +70,8 @@ pub(crate) fn stretch(
             }
             Request::Clears(next, hints, p) => {
                 let length = put_operator(out, st.length, p);
-                let said = advance_at(p, st, stack);
-                st = clear(st, hints, length, said);
+                let settled = advance_at(p, st, stack);
+                st = clear(st, hints, length, settled);
                 i = next;
             }
             Request::Push(next, o) => {
@@ -84,8 +84,8 @@ pub(crate) fn stretch(
             Request::Masks(a, b, count, hints, p) => {
                 let behind = put_operator(out, st.length, p);
                 let length = put_bytes(out, behind, &cs[a..b]);
-                let said = advance_at(p, st, stack);
-                st = mask(st, count, hints, b - a, length, said);
+                let settled = advance_at(p, st, stack);
+                st = mask(st, count, hints, b - a, length, settled);
                 i = b;
             }
             Request::Calls(next, which) => {
@@ -99,8 +99,8 @@ pub(crate) fn stretch(
             }
             Request::Ends(p) => {
                 let length = put_operator(out, st.length, p);
-                let said = advance_at(p, st, stack);
-                return ended(finish(st, length, said), Ending::Ended);
+                let settled = advance_at(p, st, stack);
+                return ended(finish(st, length, settled), Ending::Ended);
             }
             Request::Out => {
                 return ended(st, Ending::Back);

@@ -1,6 +1,7 @@
 use mathlib.Core.Path.{_≡_, sym, ap, _∙_}
 use mathlib.Core.Bool.{Bool, true, false}
 use native.Mathlib.Nat.{lt-of-lt-of-le}
+use lib.Dec.{lit<}
 use Rattle.charstring.specs.AdvanceLaws.{spare-some, says, says-none}
 use Rattle.reading.specs.Rules.{type2Takes}
 use Rattle.reading.specs.Items.{spare}
@@ -30,12 +31,12 @@ shared-slice-read-word c =
 returns : tie.Need-returns
 returns c =
     let args = c .before .before .before .before .before .args in
-    says (type2Takes (args .p)) (args .stack .now) (args .count) (is-spare (c .before .before) true (search needs))
+    (says (type2Takes (args .p)) (args .stack .now) (args .count) (is-spare (c .before .before) true (search needs)), lit< tt)
 
 returns-2 : tie.Need-returns-2
 returns-2 c =
     let args = c .before .before .before .before .args in
-    says-none (type2Takes (args .p)) (args .stack .now) (args .count) (is-spare (c .before) false (search needs))
+    (says-none (type2Takes (args .p)) (args .stack .now) (args .count) (is-spare (c .before) false (search needs)), lit< tt)
 
 pub said-at-spec : {M : Type 1} → statement M
 said-at-spec = tie.close (tie.spec takes-of-requires exceeds-requires shared-slice-read-word returns returns-2)

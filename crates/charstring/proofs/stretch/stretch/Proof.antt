@@ -321,7 +321,7 @@ returns-3 c =
     let p = at-settled .before .before .before .before .put-operator3 in
     let a = ends (at-settled .before .before .before .before .before .before .before) in
     let is = c .ended2 .ensures ∙ ap (λ (y : State). record { st = y; stop = Finished Ended }) (c .before .finish .ensures) in
-    arm-end _ _ _ _ _ _ _ _ _ _ (a .turn) _ _ _ _ _ is (a .looked) (at-settled .advance-at3 .ensures) (p .ensures .1) (p .ensures .0)
+    arm-end _ _ _ _ _ _ _ _ _ _ (a .turn) _ _ _ _ _ is (a .looked) (at-settled .advance-at3 .ensures .0) (p .ensures .1) (p .ensures .0)
 
 enum-told-2 : tie.Need-enum-told-2 Inv-loop μ-loop
 enum-told-2 c = search needs
