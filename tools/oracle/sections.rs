@@ -19,6 +19,11 @@ use std::time::{Duration, Instant};
 const AMPLE: u32 = 20_000;
 const LONG: u32 = 1_100_000;
 
+/// How much longer than eight times its charstring a flat string may be that goes into the first room: one that was made, and a
+/// font's, of which few are longer.
+const SHORT_ROOM: usize = 64;
+const LONG_ROOM: usize = 1024;
+
 /// What the random ones of a sample have at least, however long the sections before them took.
 const LEAST_TIME: Duration = Duration::from_secs(5);
 
@@ -65,11 +70,15 @@ impl Part<'_> {
     }
 
     /// Into room that mostly is enough; where it is not, a call with just enough follows from 13.
-    fn flatten(&mut self, slices: [&[u8]; 3], budget: u32, every: usize) -> Result<(), String> {
-        let slices = slices.map(Cow::Borrowed);
-        let room = 8 * slices[0].len() + 64;
-        self.look(&Call { budget, room, slices, ..Call::of(&flatten::OPERATION) }, every)
+    fn flatten(&mut self, slices: [&[u8]; 3]) -> Result<(), String> {
+        self.look(&flattening(slices, AMPLE, SHORT_ROOM), 1)
     }
+}
+
+fn flattening<'a>(slices: [&'a [u8]; 3], budget: u32, more: usize) -> Call<'a> {
+    let room = 8 * slices[0].len() + more;
+    let slices = slices.map(Cow::Borrowed);
+    Call { budget, room, slices, ..Call::of(&flatten::OPERATION) }
 }
 
 impl Run {
@@ -115,7 +124,7 @@ impl Run {
             let mut part = self.part(work.name, number, thread, done);
             let locals = if number % 2 == 0 { NONE } else { L };
             let first = (number / 2).checked_sub(1).map(|first| first as u8);
-            strings(first, |string| part.flatten([string, NONE, locals], AMPLE, 1))
+            strings(first, |string| part.flatten([string, NONE, locals]))
         })?;
         Ok(sum(&threads))
     }
@@ -133,7 +142,7 @@ impl Run {
                 if i >= STRUCTURED {
                     case = damaged(case, &mut part.random);
                 }
-                part.flatten([&case.charstring, &case.globals, &case.locals], AMPLE, 1)?;
+                part.flatten([&case.charstring, &case.globals, &case.locals])?;
             }
             for operation in OPERATIONS {
                 for _ in 0..OF_EACH {
@@ -169,7 +178,8 @@ fn of_font(part: &mut Part, font: &Font, most: usize) -> Result<(), String> {
     let step = font.glyphs().count().div_ceil(most).max(1);
     for glyph in font.glyphs().step_by(step) {
         // a font's lists are long, and are lent anew at each call: so of what follows, a third
-        part.flatten([glyph.charstring, glyph.globals, glyph.locals], LONG, 3)?;
+        let slices = [glyph.charstring, glyph.globals, glyph.locals];
+        part.look(&flattening(slices, LONG, LONG_ROOM), 3)?;
     }
     for slices in font.whole(step) {
         let room = (4 * slices[0].len() + 64).min(MOST_ROOM);
