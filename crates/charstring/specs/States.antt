@@ -1,4 +1,5 @@
--- How each token changes the code's running state. Below, length is that of the flat string, and settled the advance width, which an operator settles or lets be.
+-- How each token changes the code's running state. Below, length is that of the flat string, and settled the advance width
+-- that an operator settles or lets be.
 use Prim.Native.Nat.{ℕ, _+_, _-_}
 use Rattle.charstring.specs.declared.advance.Settled.{Settled}
 use Rattle.charstring.specs.declared.state.State.{State}

@@ -65,7 +65,7 @@ leftOver rules x = rules .clean && (ltb 0 (x .mask) && ltb 0 (length (x .operand
 
 -- ---- the advance width
 
--- whether n operands are one more than an operator takes itself, or more
+-- whether n operands are more than an operator takes itself
 abbrev pub spare : Takes → ℕ → Bool
 spare Pairs n = eqb (n % 2) 1
 spare (UpTo k) n = ltb k n
