@@ -7,7 +7,7 @@ use Rattle.reading.specs.Lists.{listsOf}
 use Rattle.reading.specs.Items.{Item}
 use Rattle.reading.specs.Masks.{StemsFirst, ByNote, CleanMasks}
 use Rattle.reading.specs.Demands.{EndcharLast, LastByte, SameGlyph, DemandThree, MasksByNote, MasksClean, EndsInEndchar, EndsIn14, NeverEight}
-use Rattle.reading.specs.Demands.{AdvanceOfItems, AdvanceByNote, WithinBudget, EnoughBudget, SmallBudget, StrictThenPlain}
+use Rattle.reading.specs.Demands.{AdvanceOfItems, AdvanceByPlace, WithinBudget, EnoughBudget, SmallBudget, StrictThenPlain}
 use Rattle.reading.specs.AnswerLaws.{answer-within, answer-enough, answer-short, answer-looser, run-stopped}
 use Rattle.reading.specs.TighterLaws.{strict-tighter}
 use Rattle.reading.specs.SameGlyphLaws.{whole-items, ended-run, reported-is, items-are, advance-is, same-items, lists-bytes}
@@ -25,8 +25,8 @@ demand-three rules cs globals locals budget out x bytes g l a =
 pub advance-of-items : AdvanceOfItems
 advance-of-items rules cs globals locals budget out x bytes g l a = advance-is rules cs globals locals budget out x bytes g l a
 
-pub advance-by-note : AdvanceByNote
-advance-by-note rules cs globals locals budget out x bytes g l a =
+pub advance-by-place : AdvanceByPlace
+advance-by-place rules cs globals locals budget out x bytes g l a =
     advance-is rules cs globals locals budget out x bytes g l a
     ∙ whole-noted rules _ _ (whole-items rules cs globals locals budget out x bytes g l a)
     ∙ ap (noted rules) (sym (items-are rules cs globals locals budget out x bytes g l a))

@@ -107,9 +107,9 @@ abbrev pub AdvanceOfItems : Type 0
 AdvanceOfItems = OfAccepted (λ rules cs globals locals budget out x.
     x .advance ≡ advanceIn rules (struck (original rules cs globals locals budget .state .shown)))
 
--- which is the one that TN5177 alone gives to F
-abbrev pub AdvanceByNote : Type 0
-AdvanceByNote = OfAccepted (λ rules cs globals locals budget out x.
+-- which is the one that stands before the first operator of F
+abbrev pub AdvanceByPlace : Type 0
+AdvanceByPlace = OfAccepted (λ rules cs globals locals budget out x.
     x .advance ≡ noted rules (straight rules (reported rules cs globals locals budget out x) .items))
 
 -- demand 2's hint masks: where all stems of F stand before its first mask with bytes, each mask of F has TN5177's bytes

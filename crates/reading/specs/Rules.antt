@@ -57,7 +57,7 @@ abbrev pub type2 : Operator → Kind
 type2 = kindBy true
 
 -- how many operands an operator of one byte takes itself: a stem and a mask pairs, rmoveto two, hmoveto and vmoveto one, endchar none;
--- behind another that clears the stack there is no width
+-- another that clears the stack takes whatever waits, so that no width stands before it
 unfoldable pub byteTakes : ℕ → Takes
 byteTakes b =
     cond (among b (1 ∷ 3 ∷ 18 ∷ 19 ∷ 20 ∷ 23 ∷ [])) Pairs

@@ -1,4 +1,4 @@
--- The advance width that items leave is the one that TN5177 alone gives them. Assumes nothing.
+-- The advance width that items leave is the one that stands before their first operator. Assumes nothing.
 use mathlib.Core.Path.{_≡_, refl, ap, _∙_}
 use mathlib.Core.Bool.{Bool, true, false, not, cond}
 use mathlib.Core.List.{List, _∷_}

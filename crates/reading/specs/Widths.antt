@@ -1,5 +1,5 @@
--- The advance width by TN5177 alone (section 4), not by RULES: the operands that stand before the first operator are that operator's, and where they
--- are more than it takes, the first of them is the width.
+-- The advance width by its place in a flat string, without a state that is settled: the operands that stand before the first operator are that
+-- operator's, and where they are more than it takes, the first of them is the width. The table of what operators take is that of Rules.antt.
 use mathlib.Core.Bool.{Bool, true, false, cond}
 use mathlib.Core.List.{List, [], _∷_}
 use Rattle.number.specs.declared.Operand.{Operand}
