@@ -10,8 +10,9 @@ use lib.IntN.{ℤ, pos, negsuc, negℤ, natAbs, _+ℤ_}
 use lib.Count.{leadingZeros}
 use lib.Dec.{leb, ltb, leb·zero}
 use lib.Pow.{pow-add, shl-shr}
-use borrow.Author.Tests.{le-leb, lt-leb, lt-ltb, le-ltb, ne-eqb, eqb-true}
+use borrow.Author.Tests.{le-leb, lt-leb, lt-ltb, le-ltb, ne-eqb, eqb-true, ltb-true}
 use Rattle.number.specs.Answer.{Values, Answer, accepted, refused, alone}
+use Rattle.number.specs.AnswerLaws.{refused-accepted, accepted-same}
 use Rattle.number.specs.Call.{bitLength, nearest, off, counts, signedAs, callIndex, biasOf, entryOf, biased, callee}
 use Rattle.number.specs.Code.{units}
 use Rattle.number.specs.declared.Operand.{Operand}
@@ -199,3 +200,20 @@ exact-callee count o k e = go (callIndex true o) refl e
     go : (a : Answer ℤ) → callIndex true o ≡ a → biased count a ≡ accepted k → biased count (callIndex false o) ≡ accepted k
     go (accepted z) h q = rw (exact-index o z h) q
     go (refused n v) h q = let w : _≡_ {A = ℕ} 0 1 = cc in absurd (omega arith)
+
+-- an entry that a call finds is below the count
+pub callee-below : (exact : Bool) (count : ℕ) (o : Operand) (k : ℕ) → callee exact count o ≡ accepted k → k < count
+unfolding callee biased entryOf
+callee-below exact count o k e = by-index (callIndex exact o) e
+  where
+    below : (n : ℕ) (t : Bool) → ltb n count ≡ t → cond t (accepted n) (refused 9 alone) ≡ accepted k → k < count
+    below n true h q = let same : n ≡ k = accepted-same q in let l = ltb-true n count h in omega arith
+    below n false h q = refused-accepted q
+
+    by-entry : (z : ℤ) → entryOf count z ≡ accepted k → k < count
+    by-entry (pos n) q = below n (ltb n count) refl q
+    by-entry (negsuc n) q = refused-accepted q
+
+    by-index : (x : Answer ℤ) → biased count x ≡ accepted k → k < count
+    by-index (accepted z) q = by-entry (z +ℤ pos (biasOf count)) q
+    by-index (refused n v) q = refused-accepted q

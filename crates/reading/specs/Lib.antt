@@ -5,6 +5,7 @@ pub mod Items
 pub mod Reading
 pub mod Flat
 pub mod Answers
+pub mod Entered
 pub mod Valid
 pub mod Masks
 pub mod Widths
@@ -25,4 +26,8 @@ pub mod WidthLaws
 pub mod CleanLaws
 pub mod EndcharLaws
 pub mod DemandLaws
+pub mod ListsLaws
+pub mod EnteredLaws
+pub mod MarkingLaws
+pub mod RowLaws
 pub mod Rows

@@ -24,6 +24,11 @@ listed l Global = l .globals
 
 -- ---- of INDEX bytes, whose count has w bytes
 
+-- the list that a call names
+abbrev pub chosen : Which → List ℕ → List ℕ → List ℕ
+chosen Local globals locals = locals
+chosen Global globals locals = globals
+
 unfoldable pub countIn : Answer Extent → ℕ
 countIn (accepted x) = x .entries
 countIn (refused n v) = 0

@@ -7,6 +7,7 @@ ghost use mathlib.Core.Path.{_≡_};
 ghost use Rattle.number.specs.Answer.{numberIn};
 ghost use Rattle.reading.specs.Rules.{meant, rulesOf};
 ghost use Rattle.reading.specs.Answers.{numberOf, stopNumber, flattened};
+ghost use Rattle.reading.specs.Entered.{flattenedMarked};
 
 // An operator: whether it stands behind the escape byte 12, and its byte.
 pub struct Operator {
@@ -189,6 +190,26 @@ impl Flattened {
             Flattened::BadLocals(_) => 2,
             Flattened::Refused(why) => why.number(),
             Flattened::NoRoom(_, _) => 13,
+        }
+    }
+}
+
+// What flattening with rows answers.
+pub enum FlattenedMarked {
+    // What flattening does.
+    As(Flattened),
+    // A row is too short for its list.
+    ShortRow,
+}
+
+impl FlattenedMarked {
+    // The number of the answer.
+    pub fn number(self) -> u32
+        ensures { λ r. ⌜ r ≡ numberIn (flattenedMarked self) ⌝ }
+    {
+        match self {
+            FlattenedMarked::As(answer) => answer.number(),
+            FlattenedMarked::ShortRow => 43,
         }
     }
 }
