@@ -5,3 +5,4 @@ pub mod Operators
 pub mod Targets
 pub mod Once
 pub mod Twice
+pub mod Gates

@@ -1,5 +1,5 @@
 -- The entry that a call enters. Assumes nothing.
-use mathlib.Core.Path.{_≡_}
+use mathlib.Core.Path.{_≡_, subst}
 use mathlib.Core.List.{List}
 use Prim.Native.Nat.{ℕ, _+_, _-_}
 use native.Mathlib.Nat.{add-sub-cancel-left}
@@ -12,7 +12,8 @@ use Rattle.index.specs.Index.{Place, place}
 use Rattle.index.specs.IndexLaws.{lies}
 use Rattle.reading.specs.Rules.{Rules}
 use Rattle.reading.specs.Reading.{admitted}
-use Rattle.charstring.specs.Words.{enterable, aimBy, aimed}
+use Rattle.charstring.specs.Words.{enterable, aimBy, aimed, Names}
+use Rattle.charstring.specs.declared.subroutines.Target.{Target}
 
 -- ---- an entry
 
@@ -45,3 +46,7 @@ module _ (rules : Rules) (list : List ℕ) (count : ℕ) (o : Operand) (levels t
   pub aimed-none : (n : ℕ) → refused n alone ≡ callee (rules .exact) count o → refused n alone ≡ aimed rules list count o levels tail
   unfolding aimed aimBy
   aimed-none n e = rw (← e)
+
+-- the entry's number is the callee's
+pub names-as : (x y : Answer ℕ) (r : Target) → x ≡ y → Names x r → Names y r
+names-as x y r e n = subst (λ (z : Answer ℕ). Names z r) e n

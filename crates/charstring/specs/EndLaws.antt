@@ -18,6 +18,8 @@ use Rattle.reading.specs.declared.Kind.{Kind}
 use Rattle.reading.specs.declared.Kind.the-variants.{Return, End}
 use Rattle.charstring.specs.Words.{settledAs}
 use Rattle.charstring.specs.WordsLaws.{sets-begins}
+use Rattle.charstring.specs.Marks.{Says}
+use Rattle.charstring.specs.MarksLaws.{says-item, says-return}
 use Rattle.charstring.specs.States.{returned, finished}
 use Rattle.charstring.specs.Run.{AtOperator, Refuses, Begins, Holds, Repr, howOf, settledAt, Setup, whole, Here, Done}
 use Rattle.charstring.specs.HereLaws.{settled-so, stepped, counted-as, taken, led, halts, runs-out}
@@ -30,10 +32,15 @@ ended-not-back e = let z : _≡_ {A = ℕ} 0 1 = cc in omega arith
 
 module _ (u : Setup) (stack out : List ℕ) (s : State) (i : ℕ) (h : Here u stack out s i) where
   abbrev pub EndsWith : Ending → State → List ℕ → Type 0
-  EndsWith how st out₁ = Done (u .rules) stack out₁ (record { how = how; st = st }) (whole u)
+  EndsWith how st out₁ = Done (u .rules) (u .globals) stack out₁ (u .marks) (record { how = how; st = st }) (whole u)
+
+  -- what the marks say of a state, they say of the run that ends with it
+  says : {x y : Now} → x ≡ y → Says (u .globals) (u .marks) (y .shown) → Says (u .globals) (u .marks) (x .shown)
+  says e m = subst (λ (y : Now). Says (u .globals) (u .marks) (y .shown)) (sym e) m
 
   -- the state is as it was before the token
-  kept : (e : Ending) (x : Run) → howOf e ≡ x .how → x .state ≡ h .now → Done (u .rules) stack out (record { how = e; st = s }) x
+  kept : (e : Ending) (x : Run) → howOf e ≡ x .how → x .state ≡ h .now
+      → Done (u .rules) (u .globals) stack out (u .marks) (record { how = e; st = s }) x
   kept e x q n =
       let r = h .repr in
       record {
@@ -42,6 +49,7 @@ module _ (u : Setup) (stack out : List ℕ) (s : State) (i : ℕ) (h : Here u st
         length-is = ap (λ (y : Now). length (flat (struck (y .shown)))) n ∙ r .length-is;
         bytes = subst (λ (y : Now). Begins out (flat (struck (y .shown)))) (sym n) (r .bytes);
         advance-is = ap (λ (y : Now). y .left .advance) n ∙ r .held .advance-is;
+        marked = says n (h .marked);
         on = λ z. subst (Repr (u .rules) stack out s) (sym n) r;
       }
 
@@ -95,6 +103,7 @@ module _ (u : Setup) (stack out : List ℕ) (s : State) (i : ℕ) (h : Here u st
           length-is = ap (λ (y : Now). length (flat (struck (y .shown)))) same ∙ r .length-is;
           bytes = subst (λ (y : Now). Begins out (flat (struck (y .shown)))) (sym same) (r .bytes);
           advance-is = ap (λ (y : Now). y .left .advance) same ∙ r .held .advance-is;
+          marked = says same (says-return _ _ _ (h .marked));
           on = λ z. subst (Repr (u .rules) stack out (returned s)) (sym same) now-back;
         }
 
@@ -118,5 +127,6 @@ module _ (u : Setup) (stack out : List ℕ) (s : State) (i : ℕ) (h : Here u st
               (subst (λ (o : List ℕ). Begins o (f ++ operatorBytes p)) (sym d) (sets-begins out (s .length) (operatorBytes p) f (r .length-is) (r .bytes)));
           advance-is = ap (λ (y : Now). y .left .advance) same ∙ end-says (h .now .left) k
               ∙ settled-so (u .rules .takes p) stack s (h .now .left) (r .held) ∙ sym v;
+          marked = says same (says-item _ _ _ (h .marked) (bare p));
           on = λ z. absurd (ended-not-back (sym (ap (λ (x : Run). x .how) e) ∙ z));
         }

@@ -8,10 +8,11 @@ use lib.Dec.{eqb, ltb}
 use lib.ListN.{length, getD, take, drop, length-append, length-drop}
 use borrow.Author.Tests.{lt-ltb, eqb-false, ltb-true}
 use Rattle.number.specs.Answer.{Answer, accepted, refused, alone}
-use Rattle.number.specs.AnswerLaws.{refused-accepted}
+use Rattle.number.specs.AnswerLaws.{refused-accepted, accepted-same}
 use Rattle.number.specs.Number.{charstringRows}
 use Rattle.number.specs.Written.{spelling}
 use Rattle.number.specs.Call.{callee}
+use Rattle.number.specs.CallLaws.{callee-below}
 use Rattle.number.specs.declared.Operand.{Operand}
 use Rattle.index.specs.Index.{Place, extent, place, bytesBy, part}
 use Rattle.reading.specs.Lists.{Subrs, listed, countIn, entryBy, subrsOf}
@@ -24,10 +25,13 @@ use Rattle.reading.specs.ValidLaws.{index-is-last}
 use Rattle.reading.specs.Answers.{numberOf}
 use Rattle.reading.specs.declared.Refusal.{Refusal}
 use Rattle.reading.specs.declared.Which.{Which}
-use Rattle.charstring.specs.Words.{unpackOf, stackOf, asEntry, aimBy, aimed, targetOf}
+use Rattle.reading.specs.declared.Which.the-variants.{Global}
+use Rattle.charstring.specs.Words.{unpackOf, stackOf, asEntry, aimBy, aimed, targetOf, Names}
+use Rattle.charstring.specs.Marks.{bitOf, markedAt, Says}
+use Rattle.charstring.specs.MarksLaws.{below-inside, says-call}
 use Rattle.charstring.specs.WordsLaws.{begins-cut, stack-last}
 use Rattle.charstring.specs.States.{entered}
-use Rattle.charstring.specs.Run.{CallsAt, Begins, tailOf, Repr, howOf, Setup, below, whole, onwards, Here, Done}
+use Rattle.charstring.specs.Run.{CallsAt, Begins, tailOf, Repr, howOf, Setup, remarked, belowBy, below, whole, onwards, Here, Done}
 use Rattle.charstring.specs.HereLaws.{place-of, stepped, Leads, within, taken, led, after-step}
 use Rattle.charstring.specs.EndLaws.{EndsWith, by-refusal}
 use Rattle.charstring.specs.declared.state.State.{State}
@@ -95,7 +99,7 @@ found-by w list levels tail (accepted n) p q =
 -- where a level is left, what runs below is the reading one level deeper
 below-is : (u : Setup) (levels : ℕ) → (levels ≡ 0 → ⊥) → (body : List ℕ) (t : Now)
     → below u levels body t ≡ read (u .rules) (u .lists) (u .budget) (levels - 1) body t
-unfolding below
+unfolding belowBy
 below-is u zero n body t = absurd (n refl)
 below-is u (suc levels) n body t =
     ap (λ (l : ℕ). read (u .rules) (u .lists) (u .budget) l body t) (let e : levels ≡ suc levels - 1 = omega arith in e)
@@ -133,6 +137,7 @@ repr-closed u stack out s t r =
 pub record Named (u : Setup) (which : Which) (list : List ℕ) (count : ℕ) : Type 0 where
   pub is-list : listed (u .lists) which ≡ subrsOf (u .rules .width) list
   pub is-count : count ≡ countIn (extent (u .rules .width) list)
+  pub is-globals : which ≡ Global → count ≡ u .globals
 
 module _ (u : Setup) (stack out : List ℕ) (s : State) (i : ℕ) (h : Here u stack out s i) (which : Which) (j : ℕ)
     (a : CallsAt (u .rules) (u .cs) i (u .budget) s j which) (list : List ℕ) (count : ℕ) (its : Named u which list count) where
@@ -186,7 +191,8 @@ module _ (u : Setup) (stack out : List ℕ) (s : State) (i : ℕ) (h : Here u st
   by-no r e = by-refusal u stack out s i h r inside (call-step ∙ refusal-step (callee (u .rules .exact) count top) (numberOf r) (sym e))
 
   -- an entry that is entered
-  module _ (from to : ℕ) (t : targetOf (Enter from to) ≡ aimed (u .rules) list count top (u .levels) (s .tail)) where
+  module _ (k from to : ℕ) (t : targetOf (Enter k from to) ≡ aimed (u .rules) list count top (u .levels) (s .tail))
+      (numbered : Names (callee (u .rules .exact) count top) (Enter k from to)) where
     abbrev pub body : List ℕ
     body = take (to - from) (drop from list)
 
@@ -207,7 +213,18 @@ module _ (u : Setup) (stack out : List ℕ) (s : State) (i : ℕ) (h : Here u st
           levels = u .levels - 1;
           cs = body;
           start = into-entry entering (h .now);
+          globals = u .globals;
+          marks = markedAt (u .marks) (bitOf (u .globals) which k);
         }
+
+    -- its mark says that it is entered
+    pub inner-marks : Says (u .globals) (deeper .marks) (deeper .start .shown)
+    inner-marks =
+        let same : found .entry ≡ k = accepted-same (sym (found .names) ∙ numbered) in
+        subst (λ (n : ℕ). Says (u .globals) (markedAt (u .marks) (bitOf (u .globals) which n)) (deeper .start .shown)) same
+        (says-call (u .globals) (u .marks) (h .now .shown) (h .marked) entering
+        (below-inside (u .globals) count (found .entry) which (its .is-globals)
+        (callee-below (u .rules .exact) count top (found .entry) (found .names))))
 
     last-there : endsInOperand (struck (h .now .shown)) ≡ true
     last-there = ends-is ∙ lt-ltb 0 (s .tail) (found .some-last)
@@ -270,9 +287,9 @@ module _ (u : Setup) (stack out : List ℕ) (s : State) (i : ℕ) (h : Here u st
           ),
         )
 
-    module _ (r : Ran) (stack₁ out₁ : List ℕ) (d : Done (u .rules) stack₁ out₁ r (whole deeper)) where
+    module _ (r : Ran) (stack₁ out₁ marks₁ : List ℕ) (d : Done (u .rules) (u .globals) stack₁ out₁ marks₁ r (whole deeper)) where
       -- it came back, and the caller goes on
-      pub came-back : r .how ≡ Back → Here u stack₁ out₁ (r .st) j
+      pub came-back : r .how ≡ Back → Here (remarked u marks₁) stack₁ out₁ (r .st) j
       unfolding resume
       came-back e =
           let b = a .1 .begun in
@@ -285,11 +302,12 @@ module _ (u : Setup) (stack out : List ℕ) (s : State) (i : ℕ) (h : Here u st
             enough = let z = x .1 .0 in omega (arith, b .ahead, b .inside, length-drop i (u .cs), length-drop j (u .cs));
             now = closed (whole deeper .state);
             repr = repr-closed u stack₁ out₁ (r .st) (whole deeper .state) (d .on is-back);
+            marked = d .marked;
             rest = x .1 .1 ∙ ap (resume (λ y. onwards u (x .0) (drop j (u .cs)) y) (whole deeper)) is-back;
           }
 
       -- it ended everything, or was refused
-      pub passed-on : (r .how ≡ Back → ⊥) → Done (u .rules) stack₁ out₁ r (whole u)
+      pub passed-on : (r .how ≡ Back → ⊥) → Done (u .rules) (u .globals) stack₁ out₁ marks₁ r (whole u)
       passed-on n =
           let same : whole u ≡ whole deeper = resumed .1 .1 ∙ resume-stays _ (whole deeper) (λ z. n (how-back (r .how) (d .how ∙ z))) in
-          subst (Done (u .rules) stack₁ out₁ r) (sym same) d
+          subst (Done (u .rules) (u .globals) stack₁ out₁ marks₁ r) (sym same) d

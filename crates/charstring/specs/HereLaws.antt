@@ -19,8 +19,9 @@ use Rattle.reading.specs.CutLaws.{bytes-drop}
 use Rattle.reading.specs.StraightLaws.{run-step}
 use Rattle.reading.specs.SizeLaws.{longestItem, valid-most, struck-fewer}
 use Rattle.charstring.specs.Words.{heldBy}
+use Rattle.charstring.specs.Marks.{Says}
 use Rattle.charstring.specs.WordsLaws.{stack-length}
-use Rattle.charstring.specs.Run.{Counts, tailOf, Holds, Repr, settledAt, Setup, below, whole, onwards, Here}
+use Rattle.charstring.specs.Run.{Counts, tailOf, Holds, Repr, settledAt, Setup, belowBy, below, whole, onwards, Here}
 use Rattle.number.specs.declared.Operand.{Operand}
 use Rattle.reading.specs.declared.Takes.{Takes}
 use Rattle.reading.specs.declared.Advance.{Advance}
@@ -79,13 +80,14 @@ module _ (u : Setup) where
   pub read-is : (levels : ℕ) (cs : List ℕ) (t : Now)
       → read (u .rules) (u .lists) (u .budget) levels cs t
       ≡ tokensOf (u .rules) (u .lists) (u .budget) levels (below u levels) (length cs) (length cs) cs t
-  unfolding read below
+  unfolding read belowBy
   read-is zero cs t = refl
   read-is (suc levels) cs t = refl
 
   -- at the start
-  pub begin : (stack out : List ℕ) (s : State) → ByteLists (u .lists) → Bytes (u .cs) → Repr (u .rules) stack out s (u .start) → Here u stack out s 0
-  begin stack out s e b r =
+  pub begin : (stack out : List ℕ) (s : State) → ByteLists (u .lists) → Bytes (u .cs) → Repr (u .rules) stack out s (u .start)
+      → Says (u .globals) (u .marks) (u .start .shown) → Here u stack out s 0
+  begin stack out s e b r m =
       record {
         entries = e;
         bytes = b;
@@ -93,6 +95,7 @@ module _ (u : Setup) where
         enough = le-refl (length (u .cs));
         now = u .start;
         repr = r;
+        marked = m;
         rest = read-is (u .levels) (u .cs) (u .start);
       }
 
@@ -145,9 +148,9 @@ module _ (u : Setup) (stack out : List ℕ) (s : State) (i : ℕ) (h : Here u st
 
   -- the token leads on to j
   pub goes-on : (j : ℕ) (t : Now) (stack₁ out₁ : List ℕ) (s₁ : State) → i < j → j ≤ length (u .cs) → stepped ≡ go (drop j (u .cs)) t
-      → Repr (u .rules) stack₁ out₁ s₁ t → Here u stack₁ out₁ s₁ j
+      → Repr (u .rules) stack₁ out₁ s₁ t → Says (u .globals) (u .marks) (t .shown) → Here u stack₁ out₁ s₁ j
   unfolding after
-  goes-on j t stack₁ out₁ s₁ l m e r =
+  goes-on j t stack₁ out₁ s₁ l m e r says =
       let a = after-step (omega arith) in
       record {
         entries = h .entries;
@@ -156,6 +159,7 @@ module _ (u : Setup) (stack out : List ℕ) (s : State) (i : ℕ) (h : Here u st
         enough = let q = a .1 .0 in omega (arith, length-drop i (u .cs), length-drop j (u .cs));
         now = t;
         repr = r;
+        marked = says;
         rest = a .1 .1 ∙ ap (behind (a .0)) e;
       }
 

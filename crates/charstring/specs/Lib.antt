@@ -1,7 +1,9 @@
 pub mod Words
+pub mod Marks
 pub mod States
 pub mod Run
 pub mod WordsLaws
+pub mod MarksLaws
 pub mod AdvanceLaws
 pub mod LookLaws
 pub mod HereLaws
@@ -11,3 +13,4 @@ pub mod EnterLaws
 pub mod StretchLaws
 pub mod LoopLaws
 pub mod VerdictLaws
+pub mod MarkedLaws

@@ -1,26 +1,29 @@
 -- What a turn of `run` comes to, whatever state of the reading it started from: a stretch that ends the string, and a call. Assumes nothing.
 use mathlib.Core.Path.{_≡_, refl, sym, ap, subst, _∙_}
+use mathlib.Core.Bool.{Bool}
 use mathlib.Core.List.{List}
 use Prim.Native.Nat.{ℕ, _-_, _≤_, _<_}
 use native.Mathlib.Omega.{arith}
 use lib.ListN.{length, getD, take, drop}
 use Rattle.number.specs.Number.{charstringRows}
 use Rattle.number.specs.Written.{spelling}
+use Rattle.number.specs.Call.{callee}
 use Rattle.number.specs.declared.Operand.{Operand}
 use Rattle.reading.specs.Rules.{meant}
-use Rattle.reading.specs.Lists.{listsOf}
+use Rattle.reading.specs.Lists.{chosen, listsOf}
 use Rattle.reading.specs.Tokens.{Bytes}
 use Rattle.reading.specs.Reading.{State as Now}
 use Rattle.reading.specs.SameGlyphLaws.{lists-bytes}
 use Rattle.reading.specs.declared.Refusal.{Refusal}
 use Rattle.reading.specs.declared.Which.{Which}
 use Rattle.reading.specs.declared.Which.the-variants.{Local, Global}
-use Rattle.charstring.specs.Words.{unpackOf, aimed, targetOf}
+use Rattle.charstring.specs.Words.{unpackOf, aimed, targetOf, Names}
+use Rattle.charstring.specs.Marks.{bitOf, markedAt, Says}
 use Rattle.charstring.specs.States.{entered}
 use Rattle.charstring.specs.Run.{CallsAt, Repr, Here, Roomy, Reached, Standing, StretchesTo}
-use Rattle.charstring.specs.Run.{chosen, chosenCount, Setting, Sound, grounded, around, RunsTo}
+use Rattle.charstring.specs.Run.{chosenCount, Setting, Sound, grounded, around, RunsTo}
 use Rattle.charstring.specs.HereLaws.{begin}
-use Rattle.charstring.specs.EnterLaws.{Named, by-no, found, deeper, inner-repr, index-fits, came-back, passed-on}
+use Rattle.charstring.specs.EnterLaws.{Named, by-no, found, deeper, inner-marks, inner-repr, index-fits, came-back, passed-on}
 use Rattle.charstring.specs.StretchLaws.{Safe, safe-here}
 use Rattle.charstring.specs.declared.state.State.{State}
 use Rattle.charstring.specs.declared.look.Limits.{Limits}
@@ -33,28 +36,32 @@ use Rattle.charstring.specs.declared.stretch.Stretched.{Stretched}
 use Rattle.charstring.specs.declared.subroutines.Target.{Target}
 use Rattle.charstring.specs.declared.subroutines.Target.the-variants.{Enter, No}
 
-module _ (cs globals locals : List ℕ) (by : Limits) (levels : ℕ) (stack₀ out₀ : List ℕ) (s₀ : State) where
-  -- what is asked of each state of the reading that the first state stands for
+other-list : {A : Type 0} → Local ≡ Global → A
+other-list e = let z : _≡_ {A = ℕ} 0 1 = cc in absurd (omega arith)
+
+module _ (cs globals locals : List ℕ) (by : Limits) (levels : ℕ) (stack₀ out₀ marks₀ : List ℕ) (s₀ : State) where
+  -- what is asked of each state of the reading that the first state and marks stand for
   abbrev pub Each : (Now → Type 0) → Type 0
-  Each P = (t : Now) → Repr (meant (by .rules)) stack₀ out₀ s₀ t → P t
+  Each P = (t : Now) → Repr (meant (by .rules)) stack₀ out₀ s₀ t → Says (by .globals) marks₀ (t .shown) → P t
 
-  -- the loop stands at i with this state
-  abbrev pub Stands : List ℕ → List ℕ → State → ℕ → Type 0
-  Stands stack out s i = Each (λ t. Here (around cs globals locals by levels t) stack out s i)
+  -- the loop stands at i with this state and these marks
+  abbrev pub Stands : List ℕ → List ℕ → List ℕ → State → ℕ → Type 0
+  Stands stack out marks s i = Each (λ t. Here (around cs globals locals by levels t marks) stack out s i)
 
-  abbrev pub Gives : Ran → List ℕ → List ℕ → Type 0
-  Gives r stack out = RunsTo cs globals locals by s₀ stack₀ out₀ levels r stack out
+  abbrev pub Gives : Ran → List ℕ → List ℕ → List ℕ → Type 0
+  Gives r stack out marks = RunsTo cs globals locals by s₀ stack₀ out₀ marks₀ levels r stack out marks
 
-  pub begins : Bytes cs → Bytes globals → Bytes locals → Stands stack₀ out₀ s₀ 0
-  begins b g l = λ t r. begin (around cs globals locals by levels t) stack₀ out₀ s₀ (lists-bytes (meant (by .rules) .width) globals locals g l) b r
+  pub begins : Bytes cs → Bytes globals → Bytes locals → Stands stack₀ out₀ marks₀ s₀ 0
+  begins b g l = λ t r m.
+      begin (around cs globals locals by levels t marks₀) stack₀ out₀ s₀ (lists-bytes (meant (by .rules) .width) globals locals g l) b r m
 
-  pub record Turn (stack out : List ℕ) (s : State) (i : ℕ) : Type 0 where
+  pub record Turn (stack out marks : List ℕ) (s : State) (i : ℕ) : Type 0 where
     pub same-stack : length stack ≡ length stack₀
     pub setting : Setting globals locals by stack₀
-    pub sound : Sound by stack₀ out₀ s₀
-    pub stands : Stands stack out s i
+    pub sound : Sound by stack₀ out₀ marks₀ s₀
+    pub stands : Stands stack out marks s i
 
-  module _ (stack out : List ℕ) (s : State) (i : ℕ) (h : Turn stack out s i) where
+  module _ (stack out marks : List ℕ) (s : State) (i : ℕ) (h : Turn stack out marks s i) where
     pub roomy-now : Roomy (by .rules) stack
     roomy-now =
         let r = h .setting .roomy in
@@ -73,36 +80,37 @@ module _ (cs globals locals : List ℕ) (by : Limits) (levels : ℕ) (stack₀ o
 
     pub stands-on : Standing cs by stack out s i
     unfolding Standing Sound
-    stands-on = (_, h .stands (h .sound .0) (h .sound .1))
+    stands-on = (_, h .stands (h .sound .0) (h .sound .1) (h .sound .2))
 
     -- a stretch from there that ended the string
     pub arm-done : (r : Stretched) (stack₁ out₁ : List ℕ) → StretchesTo cs by stack out s i r stack₁ out₁
         → (how : Ending) → r .stop ≡ Finished how
-        → Gives (record { how = how; st = r .st }) stack₁ out₁
+        → Gives (record { how = how; st = r .st }) stack₁ out₁ marks
     unfolding StretchesTo RunsTo
-    arm-done r stack₁ out₁ d how e = λ t p.
-        subst (λ (x : Stop). Reached cs by (grounded globals locals by levels t) i stack₁ out₁ (r .st) x) e (d _ (h .stands t p))
+    arm-done r stack₁ out₁ d how e = λ t p m.
+        subst (λ (x : Stop). Reached cs by (grounded globals locals by levels t marks) i stack₁ out₁ (r .st) x) e (d _ (h .stands t p m))
 
   -- ---- a stretch that stands before a call, with the state r
 
-  pub record Before (i : ℕ) (r : State) (stack out : List ℕ) (next : ℕ) (w : Which) : Type 0 where
+  pub record Before (i : ℕ) (r : State) (stack out marks : List ℕ) (next : ℕ) (w : Which) : Type 0 where
     pub setting : Setting globals locals by stack
-    pub sound : Sound by stack₀ out₀ s₀
+    pub sound : Sound by stack₀ out₀ marks₀ s₀
     pub stands : Each
-        (λ t. (j : ℕ) × (i ≤ j) × Here (around cs globals locals by levels t) stack out r j × CallsAt (meant (by .rules)) cs j (by .budget) r next w)
+        (λ t. (j : ℕ) × (i ≤ j) × Here (around cs globals locals by levels t marks) stack out r j × CallsAt (meant (by .rules)) cs j (by .budget) r next w)
 
-  pub before : (stack out : List ℕ) (s : State) (i : ℕ) → Turn stack out s i → (r : Stretched) (stack₁ out₁ : List ℕ)
+  pub before : (stack out marks : List ℕ) (s : State) (i : ℕ) → Turn stack out marks s i → (r : Stretched) (stack₁ out₁ : List ℕ)
       → StretchesTo cs by stack out s i r stack₁ out₁ → length stack₁ ≡ length stack → (next : ℕ) (w : Which) → r .stop ≡ Calling next w
-      → Before i (r .st) stack₁ out₁ next w
+      → Before i (r .st) stack₁ out₁ marks next w
   unfolding StretchesTo
-  before stack out s i h r stack₁ out₁ d same next w e =
+  before stack out marks s i h r stack₁ out₁ d same next w e =
       record {
-        setting = setting-now stack out s i h stack₁ same;
+        setting = setting-now stack out marks s i h stack₁ same;
         sound = h .sound;
-        stands = λ t p. subst (λ (x : Stop). Reached cs by (grounded globals locals by levels t) i stack₁ out₁ (r .st) x) e (d _ (h .stands t p));
+        stands = λ t p m.
+            subst (λ (x : Stop). Reached cs by (grounded globals locals by levels t marks) i stack₁ out₁ (r .st) x) e (d _ (h .stands t p m));
       }
 
-  module _ (i : ℕ) (r : State) (stack out : List ℕ) (next : ℕ) (w : Which) (b : Before i r stack out next w) where
+  module _ (i : ℕ) (r : State) (stack out marks : List ℕ) (next : ℕ) (w : Which) (b : Before i r stack out marks next w) where
     -- the numbers that the code's arithmetic goes by
     pub record Numbers : Type 0 where
       pub numbers : Safe stack r
@@ -114,7 +122,7 @@ module _ (cs globals locals : List ℕ) (by : Limits) (levels : ℕ) (stack₀ o
     pub safe : Numbers
     unfolding Sound
     safe =
-        let x = b .stands (b .sound .0) (b .sound .1) in
+        let x = b .stands (b .sound .0) (b .sound .1) (b .sound .2) in
         let q = b .setting .roomy in
         let a = x .3 .1 .begun in
         record {
@@ -135,19 +143,23 @@ module _ (cs globals locals : List ℕ) (by : Limits) (levels : ℕ) (stack₀ o
     abbrev pub Aims : Target → Type 0
     Aims x = targetOf x ≡ aimed (meant (by .rules)) list-of (chosenCount w by) operand-of levels (r .tail)
 
-    named : (t : Now) → Named (around cs globals locals by levels t) w list-of (chosenCount w by)
+    -- its entry's number
+    abbrev pub Numbered : Target → Type 0
+    Numbered x = Names (callee (meant (by .rules) .exact) (chosenCount w by) operand-of) x
+
+    named : (t : Now) → Named (around cs globals locals by levels t marks) w list-of (chosenCount w by)
     unfolding listsOf
     named t = by-which w
       where
-        by-which : (v : Which) → Named (around cs globals locals by levels t) v (chosen v globals locals) (chosenCount v by)
-        by-which Local = record { is-list = refl; is-count = b .setting .local-count }
-        by-which Global = record { is-list = refl; is-count = b .setting .global-count }
+        by-which : (v : Which) → Named (around cs globals locals by levels t marks) v (chosen v globals locals) (chosenCount v by)
+        by-which Local = record { is-list = refl; is-count = b .setting .local-count; is-globals = λ e. other-list e }
+        by-which Global = record { is-list = refl; is-count = b .setting .global-count; is-globals = λ e. refl }
 
-    pub arm-no : (k : Refusal) → Aims (No k) → Gives (record { how = Refused k; st = r }) stack out
+    pub arm-no : (k : Refusal) → Aims (No k) → Gives (record { how = Refused k; st = r }) stack out marks
     unfolding RunsTo
-    arm-no k e = λ t p. let x = b .stands t p in by-no _ stack out r (x .0) (x .2) w next (x .3) list-of (chosenCount w by) (named t) k e
+    arm-no k e = λ t p m. let x = b .stands t p m in by-no _ stack out r (x .0) (x .2) w next (x .3) list-of (chosenCount w by) (named t) k e
 
-    module _ (from to : ℕ) (e : Aims (Enter from to)) where
+    module _ (k from to : ℕ) (e : Aims (Enter k from to)) (e′ : Numbered (Enter k from to)) where
       abbrev pub body-of : List ℕ
       body-of = take (to - from) (drop from list-of)
 
@@ -156,46 +168,63 @@ module _ (cs globals locals : List ℕ) (by : Limits) (levels : ℕ) (stack₀ o
       unfolding Sound
       index-there =
           let t = b .sound .0 in
-          let x = b .stands t (b .sound .1) in
-          let m = index-fits _ stack out r (x .0) (x .2) w next (x .3) list-of (chosenCount w by) (named t) from to e in
-          let g = found _ stack out r (x .0) (x .2) w next (x .3) list-of (chosenCount w by) (named t) from to e in
+          let x = b .stands t (b .sound .1) (b .sound .2) in
+          let m = index-fits _ stack out r (x .0) (x .2) w next (x .3) list-of (chosenCount w by) (named t) k from to e e′ in
+          let g = found _ stack out r (x .0) (x .2) w next (x .3) list-of (chosenCount w by) (named t) k from to e e′ in
           (m, g .some-last, g .levels-left)
 
       module _ (s : State) (size : ℕ) (q : size ≡ length (spelling charstringRows operand-of)) (is : s ≡ entered r size) where
-        abbrev begins-at : (t : Now) → Repr (meant (by .rules)) stack₀ out₀ s₀ t → Now
-        begins-at t p =
-            let x = b .stands t p in
-            deeper (around cs globals locals by levels t) stack out r (x .0) (x .2) w next (x .3) list-of (chosenCount w by) (named t) from to e .start
+        -- the marks with that of the entry
+        abbrev pub with-mark : List ℕ
+        with-mark = markedAt marks (bitOf (by .globals) w k)
 
-        inner : (t : Now) (p : Repr (meant (by .rules)) stack₀ out₀ s₀ t) → Repr (meant (by .rules)) stack out s (begins-at t p)
-        inner t p =
-            let x = b .stands t p in
-            subst (λ (y : State). Repr (meant (by .rules)) stack out y (begins-at t p)) (sym is)
-            (inner-repr _ stack out r (x .0) (x .2) w next (x .3) list-of (chosenCount w by) (named t) from to e size q)
+        module _ (t : Now) (p : Repr (meant (by .rules)) stack₀ out₀ s₀ t) (m : Says (by .globals) marks₀ (t .shown)) where
+          abbrev begins-at : Now
+          begins-at =
+              let x = b .stands t p m in
+              deeper (around cs globals locals by levels t marks) stack out r (x .0) (x .2) w next (x .3) list-of (chosenCount w by)
+              (named t) k from to e e′ .start
 
-        -- the entry's state stands for one of the reading
-        pub inside-sound : Sound by stack out s
+          inner : Repr (meant (by .rules)) stack out s begins-at
+          inner =
+              let x = b .stands t p m in
+              subst (λ (y : State). Repr (meant (by .rules)) stack out y begins-at) (sym is)
+              (inner-repr _ stack out r (x .0) (x .2) w next (x .3) list-of (chosenCount w by) (named t) k from to e e′ size q)
+
+          inner-says : Says (by .globals) with-mark (begins-at .shown)
+          inner-says =
+              let x = b .stands t p m in
+              inner-marks _ stack out r (x .0) (x .2) w next (x .3) list-of (chosenCount w by) (named t) k from to e e′
+
+        -- the entry's state and marks stand for a state of the reading
+        pub inside-sound : (marks₁ : List ℕ) → marks₁ ≡ with-mark → Sound by stack out marks₁ s
         unfolding Sound
-        inside-sound = (_, inner (b .sound .0) (b .sound .1))
+        inside-sound marks₁ a =
+            let sound = b .sound in
+            subst (λ (l : List ℕ). Sound by stack out l s) (sym a)
+            (_, inner (sound .0) (sound .1) (sound .2), inner-says (sound .0) (sound .1) (sound .2))
 
-        module _ (list : List ℕ) (its : list ≡ list-of) (r₁ : Ran) (stack₁ out₁ : List ℕ)
-            (ran : RunsTo (take (to - from) (drop from list)) globals locals by s stack out (levels - 1) r₁ stack₁ out₁) where
-          ran-there : RunsTo body-of globals locals by s stack out (levels - 1) r₁ stack₁ out₁
-          ran-there = subst (λ (l : List ℕ). RunsTo (take (to - from) (drop from l)) globals locals by s stack out (levels - 1) r₁ stack₁ out₁) its ran
+        module _ (list : List ℕ) (its : list ≡ list-of) (marked : List ℕ) (is-marked : marked ≡ with-mark) (r₁ : Ran) (stack₁ out₁ marks₁ : List ℕ)
+            (ran : RunsTo (take (to - from) (drop from list)) globals locals by s stack out marked (levels - 1) r₁ stack₁ out₁ marks₁) where
+          ran-there : RunsTo body-of globals locals by s stack out with-mark (levels - 1) r₁ stack₁ out₁ marks₁
+          ran-there =
+              subst (λ (l : List ℕ). RunsTo (take (to - from) (drop from l)) globals locals by s stack out with-mark (levels - 1) r₁ stack₁ out₁ marks₁) its
+              (subst
+              (λ (l : List ℕ). RunsTo (take (to - from) (drop from list)) globals locals by s stack out l (levels - 1) r₁ stack₁ out₁ marks₁) is-marked ran)
 
-          pub arm-back : r₁ .how ≡ Back → Stands stack₁ out₁ (r₁ .st) next
+          pub arm-back : r₁ .how ≡ Back → Stands stack₁ out₁ marks₁ (r₁ .st) next
           unfolding RunsTo
-          arm-back c = λ t p.
-              let x = b .stands t p in
+          arm-back c = λ t p m.
+              let x = b .stands t p m in
               came-back _ stack out r (x .0) (x .2) w next (x .3) list-of (chosenCount w by)
-              (named t) from to e r₁ stack₁ out₁ (ran-there _ (inner t p)) c
+              (named t) k from to e e′ r₁ stack₁ out₁ marks₁ (ran-there _ (inner t p m) (inner-says t p m)) c
 
-          pub arm-passed : (r₁ .how ≡ Back → ⊥) → Gives r₁ stack₁ out₁
+          pub arm-passed : (r₁ .how ≡ Back → ⊥) → Gives r₁ stack₁ out₁ marks₁
           unfolding RunsTo
-          arm-passed n = λ t p.
-              let x = b .stands t p in
+          arm-passed n = λ t p m.
+              let x = b .stands t p m in
               passed-on _ stack out r (x .0) (x .2) w next (x .3) list-of (chosenCount w by)
-              (named t) from to e r₁ stack₁ out₁ (ran-there _ (inner t p)) n
+              (named t) k from to e e′ r₁ stack₁ out₁ marks₁ (ran-there _ (inner t p m) (inner-says t p m)) n
 
 -- ---- what the code found, in these words
 
@@ -206,6 +235,13 @@ pub aims-at : (rules : _) (l l′ : List ℕ) (n n′ : ℕ) (o o′ : Operand) 
 aims-at rules l l′ n n′ o o′ levels tail r x e₁ e₂ e₃ e₄ q =
     ap targetOf (sym e₄) ∙ q ∙ ap (λ (y : List ℕ). aimed rules y n o levels tail) e₁ ∙ ap (λ (y : ℕ). aimed rules l′ y o levels tail) e₂
     ∙ ap (λ (y : Operand). aimed rules l′ n′ y levels tail) e₃
+
+-- and its entry's number, by the same
+pub names-at : (exact : Bool) (n n′ : ℕ) (o o′ : Operand) (r x : Target) → n ≡ n′ → o ≡ o′ → r ≡ x
+    → Names (callee exact n o) r → Names (callee exact n′ o′) x
+names-at exact n n′ o o′ r x e₁ e₂ e₃ q =
+    subst (Names (callee exact n′ o′)) e₃
+    (subst (λ (y : Operand). Names (callee exact n′ y) r) e₂ (subst (λ (y : ℕ). Names (callee exact y o) r) e₁ q))
 
 pub ended-goes : (e : Ending) → e ≡ Ended → e ≡ Back → ⊥
 ended-goes e p q = let w : _≡_ {A = ℕ} 0 1 = cc in omega arith

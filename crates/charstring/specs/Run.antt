@@ -29,6 +29,7 @@ use Rattle.reading.specs.declared.Which.{Which}
 use Rattle.reading.specs.declared.Which.the-variants.{Local, Global}
 use Rattle.reading.specs.declared.Kind.the-variants.{Stem, Clear, Mask, Call, Return, End}
 use Rattle.charstring.specs.Words.{shortOf, stackOf, heldBy}
+use Rattle.charstring.specs.Marks.{Says}
 use Rattle.charstring.specs.declared.state.State.{State}
 use Rattle.charstring.specs.declared.look.Limits.{Limits}
 use Rattle.charstring.specs.declared.look.Request.{Request}
@@ -175,11 +176,30 @@ pub record Setup : Type 0 where
   pub levels : ℕ
   pub cs : List ℕ
   pub start : Now
+  pub globals : ℕ  -- how many globals the marks go by
+  pub marks : List ℕ
 
--- what runs below the string
-unfoldable pub below : Setup → ℕ → List ℕ → Now → Run
-below u zero body t = record { how = stopped 10; state = t }
-below u (suc levels) body t = read (u .rules) (u .lists) (u .budget) levels body t
+-- the same with other marks
+abbrev pub remarked : Setup → List ℕ → Setup
+remarked u marks =
+    record {
+      rules = u .rules;
+      lists = u .lists;
+      budget = u .budget;
+      levels = u .levels;
+      cs = u .cs;
+      start = u .start;
+      globals = u .globals;
+      marks = marks;
+    }
+
+-- what runs below a string
+unfoldable pub belowBy : Rules → Lists → ℕ → ℕ → List ℕ → Now → Run
+belowBy rules lists budget zero body t = record { how = stopped 10; state = t }
+belowBy rules lists budget (suc levels) body t = read rules lists budget levels body t
+
+abbrev pub below : Setup → ℕ → List ℕ → Now → Run
+below u = belowBy (u .rules) (u .lists) (u .budget)
 
 -- the reading of the whole string, and from some bytes on
 abbrev pub whole : Setup → Run
@@ -196,17 +216,19 @@ pub record Here (u : Setup) (stack out : List ℕ) (s : State) (i : ℕ) : Type 
   pub enough : length (drop i (u .cs)) ≤ fuel
   pub now : Now
   pub repr : Repr (u .rules) stack out s now
+  pub marked : Says (u .globals) (u .marks) (now .shown)
   pub rest : whole u ≡ onwards u fuel (drop i (u .cs)) now
 
 -- ---- how a run ends
 
 -- what a run of the code leaves, beside the reading's x
-pub record Done (rules : Rules) (stack₁ out₁ : List ℕ) (r : Ran) (x : Run) : Type 0 where
+pub record Done (rules : Rules) (globals : ℕ) (stack₁ out₁ marks₁ : List ℕ) (r : Ran) (x : Run) : Type 0 where
   pub how : howOf (r .how) ≡ x .how
   pub tokens-are : length (x .state .shown) ≡ r .st .tokens
   pub length-is : length (flat (struck (x .state .shown))) ≡ r .st .length
   pub bytes : Begins out₁ (flat (struck (x .state .shown)))
   pub advance-is : x .state .left .advance ≡ heldBy (r .st)
+  pub marked : Says globals marks₁ (x .state .shown)
   pub on : x .how ≡ back → Repr rules stack₁ out₁ (r .st) (x .state)
 
 -- the code's numbers have room in their types and in the stack
@@ -221,19 +243,31 @@ stopAs k t = cond (leb (numberOf k) 12) (At k t) (Alone k)
 
 -- ---- a stretch of tokens without a call
 
--- what a stretch is not told: the lists, the levels left, and where the string started
+-- what a stretch is not told: the lists, the levels left, where the string started, and the marks
 pub record Ground : Type 0 where
   pub lists : Lists
   pub levels : ℕ
   pub start : Now
+  pub marks : List ℕ
 
 module _ (cs : List ℕ) (by : Limits) where
   abbrev pub upon : Ground → Setup
-  upon g = record { rules = meant (by .rules); lists = g .lists; budget = by .budget; levels = g .levels; cs = cs; start = g .start }
+  upon g =
+      record {
+        rules = meant (by .rules);
+        lists = g .lists;
+        budget = by .budget;
+        levels = g .levels;
+        cs = cs;
+        start = g .start;
+        globals = by .globals;
+        marks = g .marks;
+      }
 
   -- the string ended, or a call stands at some place
   abbrev pub Reached : Ground → ℕ → List ℕ → List ℕ → State → Stop → Type 0
-  Reached g from stack out st (Finished how) = Done (meant (by .rules)) stack out (record { how = how; st = st }) (whole (upon g))
+  Reached g from stack out st (Finished how) =
+      Done (meant (by .rules)) (by .globals) stack out (g .marks) (record { how = how; st = st }) (whole (upon g))
   Reached g from stack out st (Calling next w) =
       (i : ℕ) × (from ≤ i) × Here (upon g) stack out st i × CallsAt (meant (by .rules)) cs i (by .budget) st next w
 
@@ -247,11 +281,7 @@ module _ (cs : List ℕ) (by : Limits) where
 
 -- ---- a string
 
--- the list that a call names, and how many entries it has
-abbrev pub chosen : Which → List ℕ → List ℕ → List ℕ
-chosen Local globals locals = locals
-chosen Global globals locals = globals
-
+-- how many entries the list has that a call names
 abbrev pub chosenCount : Which → Limits → ℕ
 chosenCount Local by = by .locals
 chosenCount Global by = by .globals
@@ -266,18 +296,20 @@ pub record Setting (globals locals : List ℕ) (by : Limits) (stack : List ℕ) 
   pub global-count : by .globals ≡ countOf (by .rules) globals
   pub local-count : by .locals ≡ countOf (by .rules) locals
 
--- the state stands for one of the reading
-unfoldable pub Sound : Limits → List ℕ → List ℕ → State → Type 0
-Sound by stack out s = (t : Now) × Repr (meant (by .rules)) stack out s t
+-- the state and the marks stand for a state of the reading
+unfoldable pub Sound : Limits → List ℕ → List ℕ → List ℕ → State → Type 0
+Sound by stack out marks s = (t : Now) × Repr (meant (by .rules)) stack out s t × Says (by .globals) marks (t .shown)
 
--- a string with these lists, so many levels left and this start
-abbrev pub grounded : List ℕ → List ℕ → Limits → ℕ → Now → Ground
-grounded globals locals by levels t = record { lists = listsOf (meant (by .rules) .width) globals locals; levels = levels; start = t }
+-- a string with these lists, so many levels left, this start and these marks
+abbrev pub grounded : List ℕ → List ℕ → Limits → ℕ → Now → List ℕ → Ground
+grounded globals locals by levels t marks =
+    record { lists = listsOf (meant (by .rules) .width) globals locals; levels = levels; start = t; marks = marks }
 
-abbrev pub around : List ℕ → List ℕ → List ℕ → Limits → ℕ → Now → Setup
-around cs globals locals by levels t = upon cs by (grounded globals locals by levels t)
+abbrev pub around : List ℕ → List ℕ → List ℕ → Limits → ℕ → Now → List ℕ → Setup
+around cs globals locals by levels t marks = upon cs by (grounded globals locals by levels t marks)
 
--- whatever state of the reading the state stands for, the run is the reading's
-unfoldable pub RunsTo : List ℕ → List ℕ → List ℕ → Limits → State → List ℕ → List ℕ → ℕ → Ran → List ℕ → List ℕ → Type 0
-RunsTo cs globals locals by s stack out levels r stack₁ out₁ =
-    (t : Now) → Repr (meant (by .rules)) stack out s t → Done (meant (by .rules)) stack₁ out₁ r (whole (around cs globals locals by levels t))
+-- whatever state of the reading the state and the marks stand for, the run is the reading's
+unfoldable pub RunsTo : List ℕ → List ℕ → List ℕ → Limits → State → List ℕ → List ℕ → List ℕ → ℕ → Ran → List ℕ → List ℕ → List ℕ → Type 0
+RunsTo cs globals locals by s stack out marks levels r stack₁ out₁ marks₁ =
+    (t : Now) → Repr (meant (by .rules)) stack out s t → Says (by .globals) marks (t .shown)
+    → Done (meant (by .rules)) (by .globals) stack₁ out₁ marks₁ r (whole (around cs globals locals by levels t marks))

@@ -24,6 +24,7 @@ use Rattle.reading.specs.declared.Kind.{Kind}
 use Rattle.reading.specs.declared.Kind.the-variants.{Stem, Clear, Mask}
 use Rattle.charstring.specs.Words.{unpackOf, stackOf, settledAs, heldBy}
 use Rattle.charstring.specs.WordsLaws.{sets-begins, begins-cut, stack-pushed}
+use Rattle.charstring.specs.MarksLaws.{says-item}
 use Rattle.charstring.specs.States.{pushed, cleared, masked}
 use Rattle.charstring.specs.Run.{AtOperator, Hinted, stays, counts, Light, MaskFixed, first, later, Pushes, Begins, tailOf}
 use Rattle.charstring.specs.Run.{Holds, Repr, settledAt, Setup, Here}
@@ -98,6 +99,7 @@ module _ (u : Setup) (stack out : List ℕ) (s : State) (i : ℕ) (h : Here u st
         advance-is = r .held .advance-is;
       })
       (r .hinted) refl (ap (λ (n : ℕ). n + 1) (sym (r .tail-is)) ∙ add-one _) long)
+      (says-item _ _ _ (h .marked) (operand o))
 
   -- ---- operators
 
@@ -146,6 +148,7 @@ module _ (u : Setup) (stack out : List ℕ) (s : State) (i : ℕ) (h : Here u st
         (emitted (u .rules) stack out s (h .now) (h .repr) (bare p) _ stack out₁ (cleared s hints length₁ w) is (led u stack out s i h _ g .1)
         (stored (u .rules) stack out s (h .now) (h .repr) (operatorBytes p) out₁ d) zero-le
         (settles w stack (cleared s hints length₁ w) y v ops hs mask refl refl) hinted refl refl long)
+        (says-item _ _ _ (h .marked) (bare p))
 
     pub by-clear : (j hints length₁ : ℕ) (w : Settled) (out₁ : List ℕ) → AtOperator (u .cs) i j (s .tokens) (u .budget) p
         → Hinted (u .rules) s p hints → Settles w → out₁ ≡ sets out (s .length) (operatorBytes p)
@@ -188,6 +191,7 @@ module _ (u : Setup) (stack out : List ℕ) (s : State) (i : ℕ) (h : Here u st
         (stored (u .rules) stack out s (h .now) (h .repr) (operatorBytes p ++ m) out₁ d) room
         (settles w stack (masked s c hints (b - a) length₁ w) now-fixed v ops hs ms refl refl) most refl refl
         (let e = length-append (operatorBytes p) m in omega arith))
+        (says-item _ _ _ (h .marked) (mask-of p m))
 
     pub by-mask : (a b c hints length₁ : ℕ) (w : Settled) (out₁ : List ℕ) → AtOperator (u .cs) i a (s .tokens) (u .budget) p
         → u .rules .kind p ≡ Mask → hints ≤ u .rules .hints → a ≤ b → b ≤ length (u .cs) → MaskFixed (u .rules) s c hints (b - a)

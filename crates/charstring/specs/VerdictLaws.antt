@@ -11,11 +11,13 @@ use lib.Seq.{length-take-le, take-all}
 use Rattle.number.specs.Answer.{Values, Answer, accepted, refused, alone, atToken, needingAt, leaving, Ready, into}
 use Rattle.number.specs.AnswerLaws.{refused-accepted, accepted-same, mapped-refused, into-fits, into-short}
 use Rattle.reading.specs.Rules.{Rules, rulesOf, meant}
+use Rattle.reading.specs.Lists.{subrsOf, listsOf}
 use Rattle.reading.specs.Items.{leftBy}
 use Rattle.reading.specs.Reading.{struck, start, Ending as How, back, stopped, Run, tokensBy, tokens, reading, original}
 use Rattle.reading.specs.Valid.{none}
 use Rattle.reading.specs.Flat.{flat}
 use Rattle.reading.specs.Answers.{Flattening, flatOf, flatReady, readyBy, judged, toldIn, verdict, outcome, numberOf, comesWith, stopNumber, stopValues}
+use Rattle.reading.specs.Entered.{enteredBy}
 use Rattle.reading.specs.AnswerLaws.{AcceptedBy, came-to-end, Judged, takes, turns-down, judged-so, judged-accepted, accepted-tokens}
 use Rattle.reading.specs.declared.Rules.{Rules as CodeRules}
 use Rattle.reading.specs.declared.Profile.{Profile}
@@ -26,6 +28,8 @@ use Rattle.reading.specs.declared.Stopped.{Stopped}
 use Rattle.reading.specs.declared.Stopped.the-variants.{At, Alone}
 use Rattle.charstring.specs.Words.{stackOf, heldBy}
 use Rattle.charstring.specs.WordsLaws.{begins-none, begins-take}
+use Rattle.charstring.specs.Marks.{marksOf, Says, Clear, runMarks}
+use Rattle.charstring.specs.MarksLaws.{says-none}
 use Rattle.charstring.specs.States.{begun}
 use Rattle.charstring.specs.Run.{Begins, tailOf, Repr, howOf, Done, stopAs, Roomy, countOf, Setting, Sound, RunsTo}
 use Rattle.charstring.specs.declared.state.State.{State}
@@ -52,25 +56,37 @@ begun-is rules stack out =
 abbrev pub limitsOf : CodeRules → ℕ → List ℕ → List ℕ → Limits
 limitsOf rules budget globals locals = record { rules = rules; budget = budget; globals = countOf rules globals; locals = countOf rules locals }
 
-module _ (rules : CodeRules) (stack out : List ℕ) (globals locals : List ℕ) (budget : ℕ) (by : Limits) (s : State) (same : s ≡ begun)
-    (limits : by ≡ limitsOf rules budget globals locals) where
-  sound : Sound (limitsOf rules budget globals locals) stack out s
+module _ (rules : CodeRules) (stack out marks : List ℕ) (clear : Clear marks) (globals locals : List ℕ) (budget : ℕ) (by : Limits)
+    (s : State) (same : s ≡ begun) (limits : by ≡ limitsOf rules budget globals locals) where
+  begun-here : Repr (meant rules) stack out s start
+  begun-here = subst (λ (y : State). Repr (meant rules) stack out y start) (sym same) (begun-is (meant rules) stack out)
+
+  sound : Sound (limitsOf rules budget globals locals) stack out marks s
   unfolding Sound
-  sound = (start, subst (λ (y : State). Repr (meant rules) stack out y start) (sym same) (begun-is (meant rules) stack out))
+  sound = (start, begun-here, says-none _ marks clear)
 
   -- what a run from the first token asks
-  pub ready : Roomy rules stack → Setting globals locals by stack × Sound by stack out s
+  pub ready : Roomy rules stack → Setting globals locals by stack × Sound by stack out marks s
   ready h =
-      subst (λ (l : Limits). Setting globals locals l stack × Sound l stack out s) (sym limits)
+      subst (λ (l : Limits). Setting globals locals l stack × Sound l stack out marks s) (sym limits)
       (record { roomy = h; global-count = refl; local-count = refl }, sound)
 
   -- the run of the code is the reading's
-  pub done : (cs : List ℕ) (r : Ran) (stack₁ out₁ : List ℕ) → RunsTo cs globals locals by s stack out (rules .levels) r stack₁ out₁
-      → Done (meant rules) stack₁ out₁ r (original (meant rules) cs globals locals budget)
+  pub done : (cs : List ℕ) (r : Ran) (stack₁ out₁ marks₁ : List ℕ)
+      → RunsTo cs globals locals by s stack out marks (rules .levels) r stack₁ out₁ marks₁
+      → Done (meant rules) (countOf rules globals) stack₁ out₁ marks₁ r (original (meant rules) cs globals locals budget)
   unfolding RunsTo reading
-  done cs r stack₁ out₁ runs =
-      subst (λ (l : Limits). RunsTo cs globals locals l s stack out (rules .levels) r stack₁ out₁) limits runs start
-      (subst (λ (y : State). Repr (meant rules) stack out y start) (sym same) (begun-is (meant rules) stack out))
+  done cs r stack₁ out₁ marks₁ runs =
+      subst (λ (l : Limits). RunsTo cs globals locals l s stack out marks (rules .levels) r stack₁ out₁ marks₁) limits runs start
+      begun-here (says-none _ marks clear)
+
+-- its marks are those of the reading
+pub run-marked : (rules : CodeRules) (cs globals locals : List ℕ) (budget : ℕ) (stack₁ out₁ marks marks₁ : List ℕ) (r : Ran)
+    → Done (meant rules) (countOf rules globals) stack₁ out₁ marks₁ r (original (meant rules) cs globals locals budget) → length marks₁ ≡ length marks
+    → marks₁ ≡ runMarks (meant rules) cs globals locals budget (length marks)
+unfolding Says listsOf subrsOf
+run-marked rules cs globals locals budget stack₁ out₁ marks marks₁ r d e =
+    d .marked ∙ ap (marksOf (countOf rules globals) (enteredBy (original (meant rules) cs globals locals budget))) e
 
 -- ---- a profile's rules
 
@@ -103,7 +119,7 @@ told-so k t = go (leb (numberOf k) 12)
     go true = refl
     go false = refl
 
-module _ (rules : Rules) (stack₁ out₁ : List ℕ) (r : Ran) (x : Run) (d : Done rules stack₁ out₁ r x) where
+module _ (rules : Rules) (globals : ℕ) (stack₁ out₁ marks₁ : List ℕ) (r : Ran) (x : Run) (d : Done rules globals stack₁ out₁ marks₁ r x) where
   -- with the advance width w
   abbrev measured : Advance → Flattening
   measured w = record { size = r .st .length; tokens = r .st .tokens; advance = w }

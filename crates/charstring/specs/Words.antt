@@ -1,4 +1,5 @@
 -- What the code holds, in the reading's words.
+use mathlib.Core.Path.{_≡_}
 use mathlib.Core.Bool.{false, cond}
 use mathlib.Core.List.{List, [], _∷_}
 use Prim.Native.Nat.{ℕ, zero, suc, _-_, _/_, _%_, _^_, _≤_, _<_}
@@ -87,10 +88,15 @@ unfoldable pub aimed : Rules → List ℕ → ℕ → Operand → ℕ → ℕ �
 aimed rules list count o levels tail = aimBy (rules .width) list levels tail (callee (rules .exact) count o)
 
 abbrev pub targetOf : Target → Answer Place
-targetOf (Enter from to) = accepted (record { start = from; size = to - from })
+targetOf (Enter k from to) = accepted (record { start = from; size = to - from })
 targetOf (No k) = refused (numberOf k) alone
 
 -- an entry that is entered lies within the list
 abbrev pub Inside : ℕ → Target → Type 0
-Inside n (Enter from to) = (from ≤ to) × (to ≤ n)
+Inside n (Enter k from to) = (from ≤ to) × (to ≤ n)
 Inside n (No k) = Unit {0}
+
+-- and has the number that its index names
+abbrev pub Names : Answer ℕ → Target → Type 0
+Names x (Enter k from to) = x ≡ accepted k
+Names x (No k) = Unit {0}

@@ -1,6 +1,7 @@
 // Running a charstring: one recursive function over slices, which goes from call to call.
 use crate::argstack::unpack;
 use crate::look::Limits;
+use crate::marks::mark;
 use crate::state::State;
 use crate::state::enter;
 use crate::store::size_of;
@@ -12,9 +13,10 @@ use crate::subroutines::Target;
 use crate::subroutines::aim;
 use reading::Which;
 ghost use mathlib.Core.Path.{_≡_};
-ghost use Rattle.charstring.specs.Run.{chosen, chosenCount, Setting, Sound, RunsTo};
+ghost use Rattle.reading.specs.Lists.{chosen};
+ghost use Rattle.charstring.specs.Run.{chosenCount, Setting, Sound, RunsTo};
 
-// Runs a charstring, and the entries that it calls, from a state.
+// Runs a charstring, and the entries that it calls, from a state, and marks the entries.
 pub(crate) fn run<'a>(
     cs: &'a [u8],
     globals: &'a [u8],
@@ -23,12 +25,13 @@ pub(crate) fn run<'a>(
     s: State,
     stack: &mut [u64],
     out: &mut [u8],
+    marks: &mut [u8],
     levels: u32,
 ) -> Ran
     requires { ⌜ Setting (now globals) (now locals) by (now stack) ⌝ }
-    requires { ⌜ Sound by (now stack) (now out) s ⌝ }
-    ensures { λ r. ⌜ RunsTo (now (cs .entry)) (now (globals .entry)) (now (locals .entry)) by s (now (stack .entry)) (now (out .entry))
-        levels r (now (stack .exit)) (now (out .exit)) ⌝ }
+    requires { ⌜ Sound by (now stack) (now out) (now marks) s ⌝ }
+    ensures { λ r. ⌜ RunsTo (now (cs .entry)) (now (globals .entry)) (now (locals .entry)) by s
+        (now (stack .entry)) (now (out .entry)) (now (marks .entry)) levels r (now (stack .exit)) (now (out .exit)) (now (marks .exit)) ⌝ }
 {
     let mut st = s;
     let mut i: usize = 0;
@@ -59,10 +62,21 @@ pub(crate) fn run<'a>(
                             st: here,
                         };
                     }
-                    Target::Enter(from, to) => {
+                    Target::Enter(k, from, to) => {
+                        mark(marks, which, k, by.globals);
                         let body = &list[from..to];
                         let inner = enter(here, size_of(o));
-                        let r = run(body, globals, locals, by, inner, stack, out, levels - 1);
+                        let r = run(
+                            body,
+                            globals,
+                            locals,
+                            by,
+                            inner,
+                            stack,
+                            out,
+                            marks,
+                            levels - 1,
+                        );
                         let how = r.how;
                         match how {
                             Ending::Back => {

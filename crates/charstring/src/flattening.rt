@@ -25,6 +25,7 @@ ghost use Rattle.reading.specs.Rules.{rulesOf, meant};
 ghost use Rattle.reading.specs.Lists.{countIn};
 ghost use Rattle.reading.specs.Reading.{stopped, tokensBy, original};
 ghost use Rattle.reading.specs.Answers.{numberOf, flatOf, flattened, verdict, outcome, flattening};
+ghost use Rattle.charstring.specs.Marks.{Clear, runMarks};
 ghost use Rattle.charstring.specs.Run.{Begins, Roomy, stopAs, countOf};
 
 // Flattens a charstring with its two subroutine lists into the start of out. A refusal changes no
@@ -65,8 +66,29 @@ pub fn write<'a>(
         ≡ outcome (rulesOf profile) (now (out .entry))
         (original (rulesOf profile) (now (cs .entry)) (now (globals .entry)) (now (locals .entry)) budget) ⌝ }
 {
+    let mut unmarked = [0u8; 0];
+    write_marking(cs, globals, locals, profile, budget, out, &mut unmarked)
+}
+
+// The same, with marks of the entries that the run enters, as far as there is room for them.
+pub(crate) fn write_marking<'a>(
+    cs: &'a [u8],
+    globals: &'a [u8],
+    locals: &'a [u8],
+    profile: Profile,
+    budget: u32,
+    out: &mut [u8],
+    marks: &mut [u8],
+) -> Flattened
+    requires { ⌜ Clear (now marks) ⌝ }
+    ensures { λ r. ⌜ record { answer = flattened r; left = now (out .exit) }
+        ≡ outcome (rulesOf profile) (now (out .entry))
+        (original (rulesOf profile) (now (cs .entry)) (now (globals .entry)) (now (locals .entry)) budget) ⌝ }
+    ensures { λ r. ⌜ now (marks .exit) ≡ runMarks (rulesOf profile) (now (cs .entry)) (now (globals .entry)) (now (locals .entry)) budget
+        (length (now (marks .entry))) ⌝ }
+{
     let mut held = [0u8; 2048];
-    let verdict = draft(cs, globals, locals, profile, budget, &mut held);
+    let verdict = draft_marking(cs, globals, locals, profile, budget, &mut held, marks);
     let Flattened::Accepted(n, tokens, _) = verdict else {
         return verdict;
     };
@@ -111,6 +133,28 @@ pub fn draft<'a>(
     ensures { λ r. ⌜ Begins (now (held .exit))
         (flatOf (original (rulesOf profile) (now (cs .entry)) (now (globals .entry)) (now (locals .entry)) budget)) ⌝ }
 {
+    let mut unmarked = [0u8; 0];
+    draft_marking(cs, globals, locals, profile, budget, held, &mut unmarked)
+}
+
+// The same, with marks.
+fn draft_marking<'a>(
+    cs: &'a [u8],
+    globals: &'a [u8],
+    locals: &'a [u8],
+    profile: Profile,
+    budget: u32,
+    held: &mut [u8],
+    marks: &mut [u8],
+) -> Flattened
+    requires { ⌜ Clear (now marks) ⌝ }
+    ensures { λ r. ⌜ flattened r
+        ≡ verdict (rulesOf profile) (original (rulesOf profile) (now (cs .entry)) (now (globals .entry)) (now (locals .entry)) budget) ⌝ }
+    ensures { λ r. ⌜ Begins (now (held .exit))
+        (flatOf (original (rulesOf profile) (now (cs .entry)) (now (globals .entry)) (now (locals .entry)) budget)) ⌝ }
+    ensures { λ r. ⌜ now (marks .exit) ≡ runMarks (rulesOf profile) (now (cs .entry)) (now (globals .entry)) (now (locals .entry)) budget
+        (length (now (marks .entry))) ⌝ }
+{
     let mut stack = [0u64; 48];
     draft_by(
         cs,
@@ -120,6 +164,7 @@ pub fn draft<'a>(
         budget,
         &mut stack,
         held,
+        marks,
     )
 }
 
@@ -132,12 +177,16 @@ fn draft_by<'a>(
     budget: u32,
     stack: &mut [u64],
     held: &mut [u8],
+    marks: &mut [u8],
 ) -> Flattened
     requires { ⌜ Roomy rules (now stack) ⌝ }
+    requires { ⌜ Clear (now marks) ⌝ }
     ensures { λ r. ⌜ flattened r
         ≡ verdict (meant rules) (original (meant rules) (now (cs .entry)) (now (globals .entry)) (now (locals .entry)) budget) ⌝ }
     ensures { λ r. ⌜ Begins (now (held .exit))
         (flatOf (original (meant rules) (now (cs .entry)) (now (globals .entry)) (now (locals .entry)) budget)) ⌝ }
+    ensures { λ r. ⌜ now (marks .exit) ≡ runMarks (meant rules) (now (cs .entry)) (now (globals .entry)) (now (locals .entry)) budget
+        (length (now (marks .entry))) ⌝ }
 {
     let by = limits_of(rules, budget, globals, locals);
     let r = run(
@@ -148,6 +197,7 @@ fn draft_by<'a>(
         at_start(),
         stack,
         held,
+        marks,
         rules.levels,
     );
     let how = r.how;
@@ -166,7 +216,7 @@ fn draft_by<'a>(
 }
 
 // Stores the first n bytes of held.
-fn keep(out: &mut [u8], n: usize, held: &[u8])
+pub(crate) fn keep(out: &mut [u8], n: usize, held: &[u8])
     requires { ⌜ (n ≤ length (now out)) × (n ≤ length (now held)) ⌝ }
     ensures { λ _. ⌜ now (out .exit) ≡ take n (now (held .entry)) ++ drop n (now (out .entry)) ⌝ }
 {
@@ -191,7 +241,7 @@ fn limits_of(rules: Rules, budget: u32, globals: &[u8], locals: &[u8]) -> Limits
 }
 
 // How many entries a list has; none where it cannot be read.
-fn count_of(list: &[u8], width: Width) -> u32
+pub(crate) fn count_of(list: &[u8], width: Width) -> u32
     ensures { λ r. ⌜ r ≡ countIn (extent (widthOf width) (now (list .entry))) ⌝ }
 {
     let IndexRead::Read(count, _) = read_index(list, width) else {

@@ -10,12 +10,14 @@ use reading::Rules;
 ghost use mathlib.Core.Path.{_≡_};
 ghost use lib.ListN.{length};
 ghost use Rattle.index.specs.Index.{widthOf, place};
+ghost use Rattle.number.specs.Answer.{accepted};
+ghost use Rattle.number.specs.Call.{callee};
 ghost use Rattle.reading.specs.Rules.{meant};
-ghost use Rattle.charstring.specs.Words.{aimed, enterable, targetOf, Inside};
+ghost use Rattle.charstring.specs.Words.{aimed, enterable, targetOf, Inside, Names};
 
 pub(crate) enum Target {
-    // The part of the list from here to there.
-    Enter(usize, usize),
+    // The entry's number, and its part of the list, from here to there.
+    Enter(u32, usize, usize),
     No(Refusal),
 }
 
@@ -32,6 +34,7 @@ pub(crate) fn aim(
 ) -> Target
     ensures { λ r. ⌜ targetOf r ≡ aimed (meant rules) (now (list .entry)) count o levels tail ⌝ }
     ensures { λ r. ⌜ Inside (length (now (list .entry))) r ⌝ }
+    ensures { λ r. ⌜ Names (callee (meant rules .exact) count o) r ⌝ }
 {
     let width = rules.width;
     match callee_of(o, rules.exact, count) {
@@ -45,6 +48,7 @@ pub(crate) fn aim(
 fn admit(list: &[u8], width: Width, k: u32, levels: u32, tail: usize) -> Target
     ensures { λ r. ⌜ targetOf r ≡ enterable levels tail (place (widthOf width) (now (list .entry)) k) ⌝ }
     ensures { λ r. ⌜ Inside (length (now (list .entry))) r ⌝ }
+    ensures { λ r. ⌜ Names (accepted k) r ⌝ }
 {
     let EntryRead::Entry(start, length) = read_entry(list, width, k) else {
         return Target::No(Refusal::NoEntry);
@@ -55,5 +59,5 @@ fn admit(list: &[u8], width: Width, k: u32, levels: u32, tail: usize) -> Target
     if tail == 0 {
         return Target::No(Refusal::IndexNotLast);
     }
-    Target::Enter(start, start + length)
+    Target::Enter(k, start, start + length)
 }

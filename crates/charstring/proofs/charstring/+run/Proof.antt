@@ -10,7 +10,7 @@ use Rattle.number.specs.declared.Operand.{Operand}
 use Rattle.charstring.specs.Words.{unpackOf, Inside}
 use Rattle.charstring.specs.StretchLaws.{few-tokens}
 use Rattle.charstring.specs.LoopLaws.{Stands, Gives, begins, Turn, roomy-now, stands-on, arm-done, Before, before, Numbers, safe, Aims, arm-no}
-use Rattle.charstring.specs.LoopLaws.{index-there, inside-sound, arm-back, arm-passed, aims-at, ended-goes, refused-goes}
+use Rattle.charstring.specs.LoopLaws.{Numbered, index-there, inside-sound, with-mark, arm-back, arm-passed, aims-at, names-at, ended-goes, refused-goes}
 use Rattle.charstring.specs.declared.stretch.Ending.the-variants.{Back}
 use Rattle.charstring.specs.declared.subroutines.Target.the-variants.{Enter}
 use borrow.Fn.Kinds.{In, Out}
@@ -21,6 +21,7 @@ use Rattle.charstring.proofs.charstring.+run.Lts-run as run-lts
 use Rattle.charstring.proofs.argstack.unpack.Reads as unpack-reads
 use Rattle.charstring.proofs.charstring.choose.Reads as choose-reads
 use Rattle.charstring.proofs.charstring.choose_count.Reads as choose-count-reads
+use Rattle.charstring.proofs.marks.mark.Reads as mark-reads
 use Rattle.charstring.proofs.state.enter.Reads as enter-reads
 use Rattle.charstring.proofs.store.size_of.Reads as size-of-reads
 use Rattle.charstring.proofs.stretch.stretch.Reads as stretch-reads
@@ -28,21 +29,22 @@ use Rattle.charstring.proofs.subroutines.aim.Reads as aim-reads
 use Rattle.charstring.proofs.charstring.+run.{statement}
 use Rattle.charstring.proofs.charstring.+run.Tie.{close}
 
-abbrev μ-run : Measures 3 run-kinds.ps ℕ
-μ-run κs a = a .1 .1 .1 .1 .1 .1 .1 .0
+abbrev μ-run : Measures 4 run-kinds.ps ℕ
+μ-run κs a = a .1 .1 .1 .1 .1 .1 .1 .1 .0
 
-abbrev run-at : ℕ → In 3 run-kinds.ps
-run-at t = and 3 run-kinds.ps (is 3 run-kinds.ps μ-run t) run.Pre
+abbrev run-at : ℕ → In 4 run-kinds.ps
+run-at t = and 4 run-kinds.ps (is 4 run-kinds.ps μ-run t) run.Pre
 
-abbrev run-below : ℕ → In 3 run-kinds.ps
-run-below t = and 3 run-kinds.ps (falls 3 run-kinds.ps _<_ μ-run t) run.Pre
+abbrev run-below : ℕ → In 4 run-kinds.ps
+run-below t = and 4 run-kinds.ps (falls 4 run-kinds.ps _<_ μ-run t) run.Pre
 
 abbrev run-Inv-loop : run-lts.InvT-loop
-run-Inv-loop cs globals locals by stack₀ out₀ levels st₀ i₀ stack out st i =
-    (length stack ≡ length stack₀) × (length out ≡ length out₀) × Stands cs globals locals by levels stack₀ out₀ st₀ stack out st i
+run-Inv-loop cs globals locals by stack₀ out₀ marks₀ levels st₀ i₀ stack out marks st i =
+    (length stack ≡ length stack₀) × (length out ≡ length out₀) × (length marks ≡ length marks₀)
+    × Stands cs globals locals by levels stack₀ out₀ marks₀ st₀ stack out marks st i
 
 abbrev run-μ-loop : run-lts.MeasureT-loop
-run-μ-loop cs globals locals by stack₀ out₀ levels st₀ i₀ stack out st i = length cs - i
+run-μ-loop cs globals locals by stack₀ out₀ marks₀ levels st₀ i₀ stack out marks st i = length cs - i
 
 abbrev callees : ℕ → run-lts.Claims
 callees t = (
@@ -56,6 +58,8 @@ callees t = (
   choose-count-reads.Learnt,
   aim-reads.Asked,
   aim-reads.Learnt,
+  mark-reads.Asked,
+  mark-reads.Learnt,
   size-of-reads.Asked,
   size-of-reads.Learnt,
   enter-reads.Asked,
@@ -65,14 +69,14 @@ callees t = (
 )
 
 -- a place, and what a need asks, at the callees' contracts, the invariant and the measure
-abbrev Of : (run-lts.Claims → In 3 run-kinds.ps → Out 3 run-kinds.ps run-kinds.r
+abbrev Of : (run-lts.Claims → In 4 run-kinds.ps → Out 4 run-kinds.ps run-kinds.r
     → run-lts.InvT-loop → run-lts.MeasureT-loop → Type 0) → ℕ → Type 0
 Of need t = need (callees t) (run-at t) run.Post run-Inv-loop run-μ-loop
 
 -- ---- where each place came from
 
 abbrev start-of : (t : ℕ) → Of run-lts.At-loop t → Of run-lts.Start t
-start-of t c = c .before .before .before .before .before .before
+start-of t c = c .before .before .before .before .before .before .before
 
 abbrev loop-of : (t : ℕ) → Of run-lts.After-stretch t → Of run-lts.At-loop t
 loop-of t c = c .before .before .before
@@ -83,22 +87,25 @@ stretch-of t c = c .before .before .before .before .before .before .before
 abbrev call-of : (t : ℕ) → Of run-lts.After-target2 t → Of run-lts.After-stop2 t
 call-of t c = c .before .before .before .before .before .before .before .before .before
 
+abbrev mark-of : (t : ℕ) → Of run-lts.After-size-of t → Of run-lts.After-mark t
+mark-of t c = c .before .before .before .before
+
 abbrev target-of : (t : ℕ) → Of run-lts.After-size-of t → Of run-lts.After-target2 t
-target-of t c = c .before .before .before
+target-of t c = mark-of t c .before .before .before
 
 abbrev size-of : (t : ℕ) → Of run-lts.After-run t → Of run-lts.After-size-of t
-size-of t c = c .before .before .before .before
+size-of t c = c .before .before .before .before .before
 
 -- ---- what is known there
 
 -- where the loop is
 turn-at : (t : ℕ) (c : Of run-lts.At-loop t)
     → let args = start-of t c .args in
-    Turn (args .cs .now) (args .globals .now) (args .locals .now) (args .by) (args .levels) (args .stack .now) (args .out .now) (args .s)
-    (c .loop .stack) (c .loop .out) (c .loop .st) (c .loop .i)
+    Turn (args .cs .now) (args .globals .now) (args .locals .now) (args .by) (args .levels) (args .stack .now) (args .out .now) (args .marks .now) (args .s)
+    (c .loop .stack) (c .loop .out) (c .loop .marks) (c .loop .st) (c .loop .i)
 turn-at t c =
     let start = start-of t c in
-    record { same-stack = c .loop .inv .0; setting = start .pre .1 .0; sound = start .pre .1 .1; stands = c .loop .inv .2 }
+    record { same-stack = c .loop .inv .0; setting = start .pre .1 .0; sound = start .pre .1 .1; stands = c .loop .inv .3 }
 
 -- behind a stretch the stack and the room have their lengths
 same-stack : (t : ℕ) (c : Of run-lts.After-stretch t)
@@ -114,20 +121,21 @@ at-call : (t : ℕ) (c : Of run-lts.After-stop2 t)
     → let loop = loop-of t (stretch-of t c) in
     let args = start-of t loop .args in
     let stretch = stretch-of t c .stretch in
-    Before (args .cs .now) (args .globals .now) (args .locals .now) (args .by) (args .levels) (args .stack .now) (args .out .now) (args .s)
-    (loop .loop .i) (stretch .result .st) (stretch .last .1 .1 .1 .1 .0) (stretch .last .1 .1 .1 .1 .1 .0)
+    Before (args .cs .now) (args .globals .now) (args .locals .now) (args .by) (args .levels) (args .stack .now) (args .out .now) (args .marks .now) (args .s)
+    (loop .loop .i) (stretch .result .st) (stretch .last .1 .1 .1 .1 .0) (stretch .last .1 .1 .1 .1 .1 .0) (loop .loop .marks)
     (c .stop2 .given .0 .0) (c .stop2 .given .0 .1 .0)
 at-call t c =
     let stretch = stretch-of t c .stretch in
-    before _ _ _ _ _ _ _ _ _ _ _ _ (turn-at t (loop-of t (stretch-of t c))) (stretch .result) _ _ (stretch .ensures) (stretch .kept .1 .1 .1 .1 .0) _ _
+    before _ _ _ _ _ _ _ _ _ _ _ _ _ _ (turn-at t (loop-of t (stretch-of t c))) (stretch .result) _ _ (stretch .ensures) (stretch .kept .1 .1 .1 .1 .0) _ _
     (c .stop2 .given .1)
 
-numbers : (t : ℕ) (c : Of run-lts.After-stop2 t) → Numbers _ _ _ _ _ _ _ _ _ _ _ _ _ _ (at-call t c)
-numbers t c = safe _ _ _ _ _ _ _ _ _ _ _ _ _ _ (at-call t c)
+numbers : (t : ℕ) (c : Of run-lts.After-stop2 t) → Numbers _ _ _ _ _ _ _ _ _ _ _ _ _ _ _ _ (at-call t c)
+numbers t c = safe _ _ _ _ _ _ _ _ _ _ _ _ _ _ _ _ (at-call t c)
 
 -- what was aimed at, and that it lies within the list
 aims : (t : ℕ) (c : Of run-lts.After-target2 t)
-    → Aims _ _ _ _ _ _ _ _ _ _ _ _ _ _ (at-call t (call-of t c)) (Enter (c .target2 .given .0 .0) (c .target2 .given .0 .1 .0))
+    → Aims _ _ _ _ _ _ _ _ _ _ _ _ _ _ _ _ (at-call t (call-of t c))
+    (Enter (c .target2 .given .0 .0) (c .target2 .given .0 .1 .0) (c .target2 .given .0 .1 .1 .0))
 aims t c =
     let at-aim = c .before .before in
     let at-count = at-aim .before in
@@ -135,11 +143,19 @@ aims t c =
     aims-at _ _ _ _ _ _ _ _ _ _ _ (at-choose .choose .ensures) (at-count .choose-count .ensures) (at-choose .before .unpack .ensures)
     (c .target2 .given .1) (at-aim .aim .ensures .0)
 
+numbered : (t : ℕ) (c : Of run-lts.After-target2 t)
+    → Numbered _ _ _ _ _ _ _ _ _ _ _ _ _ _ _ _ (at-call t (call-of t c))
+    (Enter (c .target2 .given .0 .0) (c .target2 .given .0 .1 .0) (c .target2 .given .0 .1 .1 .0))
+numbered t c =
+    let at-aim = c .before .before in
+    let at-count = at-aim .before in
+    names-at _ _ _ _ _ _ _ (at-count .choose-count .ensures) (at-count .before .before .unpack .ensures) (c .target2 .given .1) (at-aim .aim .ensures .1 .1)
+
 inside : (t : ℕ) (c : Of run-lts.After-target2 t)
-    → let from = c .target2 .given .0 .0 in
-    let to = c .target2 .given .0 .1 .0 in
+    → let from = c .target2 .given .0 .1 .0 in
+    let to = c .target2 .given .0 .1 .1 .0 in
     (from ≤ to) × (to ≤ length (now (c .before .before .before .before .choose .result)))
-inside t c = subst (Inside _) (c .target2 .given .1) (c .before .before .aim .ensures .1)
+inside t c = subst (Inside _) (c .target2 .given .1) (c .before .before .aim .ensures .1 .0)
 
 -- the bytes of the index, and what is known of an entry
 sized : (t : ℕ) (c : Of run-lts.After-size-of t)
@@ -147,14 +163,14 @@ sized : (t : ℕ) (c : Of run-lts.After-size-of t)
     c .size-of .result ≡ length (spelling charstringRows (unpackOf (getD (stretch .last .1 .1 .1 .1 .0) (stretch .result .st .count - 1) 0)))
 sized t c =
     c .size-of .ensures
-    ∙ ap (λ (o : Operand). length (spelling charstringRows o)) (c .before .before .before .before .before .before .before .before .unpack .ensures)
+    ∙ ap (λ (o : Operand). length (spelling charstringRows o)) (c .before .before .before .before .before .before .before .before .before .before .before .before .unpack .ensures)
 
 there : (t : ℕ) (c : Of run-lts.After-size-of t)
     → let at = stretch-of t (call-of t (target-of t c)) in
     let levels = start-of t (loop-of t at) .args .levels in
     (c .size-of .result ≤ at .stretch .result .st .length) × (0 < at .stretch .result .st .tail) × (levels ≡ 0 → ⊥)
 there t c =
-    let x = index-there _ _ _ _ _ _ _ _ _ _ _ _ _ _ (at-call t (call-of t (target-of t c))) _ _ (aims t (target-of t c)) in
+    let x = index-there _ _ _ _ _ _ _ _ _ _ _ _ _ _ _ _ (at-call t (call-of t (target-of t c))) _ _ _ (aims t (target-of t c)) (numbered t (target-of t c)) in
     (subst (λ (m : ℕ). m ≤ stretch-of t (call-of t (target-of t c)) .stretch .result .st .length) (sym (sized t c)) (x .0), x .1, x .2)
 
 -- behind the run of an entry
@@ -171,39 +187,48 @@ module _ (t : ℕ) (c : Of run-lts.After-run t) where
   still-stack : length (c .run .last .1 .1 .1 .1 .1 .0) ≡ length (start .args .stack .now)
   still-stack = c .run .kept .1 .1 .1 .1 .1 .0 ∙ same-stack t at-stretch
 
+  still-marks : length (c .run .last .1 .1 .1 .1 .1 .1 .1 .0) ≡ length (start .args .marks .now)
+  still-marks = c .run .kept .1 .1 .1 .1 .1 .1 .1 .0 ∙ mark-of t (size-of t c) .mark .kept .0 ∙ loop-of t at-stretch .loop .inv .2
+
   still-out : length (c .run .last .1 .1 .1 .1 .1 .1 .0) ≡ length (start .args .out .now)
   still-out = c .run .kept .1 .1 .1 .1 .1 .1 .0 ∙ same-out t at-stretch
 
   back : c .run .result .how ≡ Back
       → let args = start .args in
-      Stands (args .cs .now) (args .globals .now) (args .locals .now) (args .by) (args .levels) (args .stack .now) (args .out .now) (args .s)
-      (c .run .last .1 .1 .1 .1 .1 .0) (c .run .last .1 .1 .1 .1 .1 .1 .0) (c .run .result .st) (call-of t at-target .stop2 .given .0 .0)
+      Stands (args .cs .now) (args .globals .now) (args .locals .now) (args .by) (args .levels) (args .stack .now) (args .out .now)
+      (args .marks .now) (args .s) (c .run .last .1 .1 .1 .1 .1 .0) (c .run .last .1 .1 .1 .1 .1 .1 .0) (c .run .last .1 .1 .1 .1 .1 .1 .1 .0)
+      (c .run .result .st) (call-of t at-target .stop2 .given .0 .0)
   back e =
-      arm-back _ _ _ _ _ _ _ _ _ _ _ _ _ _ (at-call t (call-of t at-target)) _ _ (aims t at-target) _ _ (sized t (size-of t c))
-      (c .before .before .before .enter .ensures) _ (at-target .before .before .before .before .choose .ensures) (c .run .result) _ _ (c .run .ensures) e
+      arm-back _ _ _ _ _ _ _ _ _ _ _ _ _ _ _ _ (at-call t (call-of t at-target)) _ _ _ (aims t at-target) (numbered t at-target) _ _
+      (sized t (size-of t c)) (c .before .before .before .before .enter .ensures) _ (at-target .before .before .before .before .choose .ensures)
+      _ (mark-of t (size-of t c) .mark .ensures) (c .run .result) _ _ _ (c .run .ensures) e
 
   passed : (c .run .result .how ≡ Back → ⊥)
       → let args = start .args in
-      Gives (args .cs .now) (args .globals .now) (args .locals .now) (args .by) (args .levels) (args .stack .now) (args .out .now) (args .s)
-      (c .run .result) (c .run .last .1 .1 .1 .1 .1 .0) (c .run .last .1 .1 .1 .1 .1 .1 .0)
+      Gives (args .cs .now) (args .globals .now) (args .locals .now) (args .by) (args .levels) (args .stack .now) (args .out .now)
+      (args .marks .now) (args .s) (c .run .result) (c .run .last .1 .1 .1 .1 .1 .0) (c .run .last .1 .1 .1 .1 .1 .1 .0)
+      (c .run .last .1 .1 .1 .1 .1 .1 .1 .0)
   passed n =
-      arm-passed _ _ _ _ _ _ _ _ _ _ _ _ _ _ (at-call t (call-of t at-target)) _ _ (aims t at-target) _ _ (sized t (size-of t c))
-      (c .before .before .before .enter .ensures) _ (at-target .before .before .before .before .choose .ensures) (c .run .result) _ _ (c .run .ensures) n
+      arm-passed _ _ _ _ _ _ _ _ _ _ _ _ _ _ _ _ (at-call t (call-of t at-target)) _ _ _ (aims t at-target) (numbered t at-target) _ _
+      (sized t (size-of t c)) (c .before .before .before .before .enter .ensures) _ (at-target .before .before .before .before .choose .ensures)
+      _ (mark-of t (size-of t c) .mark .ensures) (c .run .result) _ _ _ (c .run .ensures) n
 
 -- ---- the needs
 
 run-loop-holds : (t : ℕ) → Of run-lts.Need-loop-holds t
 run-loop-holds t c =
-    let args = c .before .before .before .before .before .args in (
+    let args = c .before .before .before .before .before .before .args in
+    let third = c .before .before .before in (
       refl,
       refl,
-      begins (args .cs .now) (args .globals .now) (args .locals .now) (args .by) (args .levels) (args .stack .now) (args .out .now) (args .s)
-          (λ k. c .before .before .before .before .shared-slice-known .given k .fits) (λ k. c .before .before .before .shared-slice-known2 .given k .fits)
-          (λ k. c .before .before .shared-slice-known3 .given k .fits),
+      refl,
+      begins (args .cs .now) (args .globals .now) (args .locals .now) (args .by) (args .levels) (args .stack .now) (args .out .now) (args .marks .now)
+          (args .s) (λ k. third .before .before .shared-slice-known .given k .fits) (λ k. third .before .shared-slice-known2 .given k .fits)
+          (λ k. third .shared-slice-known3 .given k .fits),
     )
 
 run-stretch-requires : (t : ℕ) → Of run-lts.Need-stretch-requires t
-run-stretch-requires t c κs = let h = turn-at t (c .before .before) in (roomy-now _ _ _ _ _ _ _ _ _ _ _ _ h, stands-on _ _ _ _ _ _ _ _ _ _ _ _ h)
+run-stretch-requires t c κs = let h = turn-at t (c .before .before) in (roomy-now _ _ _ _ _ _ _ _ _ _ _ _ _ _ h, stands-on _ _ _ _ _ _ _ _ _ _ _ _ _ _ h)
 
 run-enum-known-stop : (t : ℕ) → Of run-lts.Need-enum-known-stop t
 run-enum-known-stop t c = search needs
@@ -214,10 +239,13 @@ run-same-length t c = same-stack t (c .before .before .before .before .before .b
 run-same-length-2 : (t : ℕ) → Of run-lts.Need-same-length-2 t
 run-same-length-2 t c = same-out t (c .before .before .before .before .before .before .before .before)
 
+run-same-length-3 : (t : ℕ) → Of run-lts.Need-same-length-3 t
+run-same-length-3 t c = loop-of t (c .before .before .before .before .before .before .before .before) .loop .inv .2
+
 run-returns : (t : ℕ) → Of run-lts.Need-returns t
 run-returns t c =
     let at = c .before .before .before .before .before .before .before .before in
-    arm-done _ _ _ _ _ _ _ _ _ _ _ _ (turn-at t (loop-of t at)) (at .stretch .result) _ _ (at .stretch .ensures) _ (c .before .stop .given .1)
+    arm-done _ _ _ _ _ _ _ _ _ _ _ _ _ _ (turn-at t (loop-of t at)) (at .stretch .result) _ _ (at .stretch .ensures) _ (c .before .stop .given .1)
 
 run-enum-known-stop-2 : (t : ℕ) → Of run-lts.Need-enum-known-stop-2 t
 run-enum-known-stop-2 t c = search needs
@@ -246,11 +274,14 @@ run-aim-requires t c κs = tt
 run-enum-known-target : (t : ℕ) → Of run-lts.Need-enum-known-target t
 run-enum-known-target t c = search needs
 
-run-same-length-3 : (t : ℕ) → Of run-lts.Need-same-length-3 t
-run-same-length-3 t c = same-stack t (stretch-of t (c .before .before .before .before .before .before .before .before .before .before))
-
 run-same-length-4 : (t : ℕ) → Of run-lts.Need-same-length-4 t
-run-same-length-4 t c = same-out t (stretch-of t (c .before .before .before .before .before .before .before .before .before .before))
+run-same-length-4 t c = same-stack t (stretch-of t (c .before .before .before .before .before .before .before .before .before .before))
+
+run-same-length-5 : (t : ℕ) → Of run-lts.Need-same-length-5 t
+run-same-length-5 t c = same-out t (stretch-of t (c .before .before .before .before .before .before .before .before .before .before))
+
+run-same-length-6 : (t : ℕ) → Of run-lts.Need-same-length-6 t
+run-same-length-6 t c = loop-of t (stretch-of t (c .before .before .before .before .before .before .before .before .before .before)) .loop .inv .2
 
 run-returns-2 : (t : ℕ) → Of run-lts.Need-returns-2 t
 run-returns-2 t c =
@@ -261,19 +292,22 @@ run-returns-2 t c =
     aims-at _ _ _ _ _ _ _ _ _ _ _ (at-choose .choose .ensures) (at-count .choose-count .ensures) (at-choose .before .unpack .ensures)
     (c .before .target .given .1) (at-aim .aim .ensures .0) in
     let b = at-call t (c .before .before .before .before .before .before .before .before .before .before) in
-    arm-no _ _ _ _ _ _ _ _ _ _ _ _ _ _ b (c .before .target .given .0 .0) e
+    arm-no _ _ _ _ _ _ _ _ _ _ _ _ _ _ _ _ b (c .before .target .given .0 .0) e
 
 run-enum-known-target-2 : (t : ℕ) → Of run-lts.Need-enum-known-target-2 t
 run-enum-known-target-2 t c = search needs
 
+run-mark-requires : (t : ℕ) → Of run-lts.Need-mark-requires t
+run-mark-requires t c κs = tt
+
 run-sub-body : (t : ℕ) → Of run-lts.Need-sub-body t
-run-sub-body t c = inside t (c .before) .0
+run-sub-body t c = inside t (c .before .before .before .before .before) .0
 
 run-part-body-start : (t : ℕ) → Of run-lts.Need-part-body-start t
-run-part-body-start t c = inside t (c .before) .0
+run-part-body-start t c = inside t (c .before .before .before .before .before) .0
 
 run-part-body-end : (t : ℕ) → Of run-lts.Need-part-body-end t
-run-part-body-end t c = inside t (c .before) .1
+run-part-body-end t c = inside t (c .before .before .before .before .before) .1
 
 run-size-of-requires : (t : ℕ) → Of run-lts.Need-size-of-requires t
 run-size-of-requires t c κs = tt
@@ -287,11 +321,11 @@ run-enter-requires t c κs =
     (n .some, x .1, few-tokens _ _ (n .begun) (omega (arith, good)), x .0)
 
 run-sub-run : (t : ℕ) → Of run-lts.Need-sub-run t
-run-sub-run t c = let y = there t (c .before .before .before) .2 in omega arith
+run-sub-run t c = let y = there t (c .before .before .before .before) .2 in omega arith
 
 run-run-requires : (t : ℕ) → Of run-lts.Need-run-requires t
 run-run-requires t c κs =
-    let at-size = c .before .before .before in
+    let at-size = c .before .before .before .before in
     let at-target = target-of t at-size in
     let call = call-of t at-target in
     let b = at-call t call in
@@ -300,7 +334,8 @@ run-run-requires t c κs =
       omega arith,
       (
         b .setting,
-        inside-sound _ _ _ _ _ _ _ _ _ _ _ _ _ _ b _ _ (aims t at-target) _ _ (sized t at-size) (c .before .before .enter .ensures),
+        inside-sound _ _ _ _ _ _ _ _ _ _ _ _ _ _ _ _ b _ _ _ (aims t at-target) (numbered t at-target) _ _ (sized t at-size)
+            (c .before .before .before .enter .ensures) _ (mark-of t at-size .mark .ensures),
       ),
     )
 
@@ -309,35 +344,42 @@ run-enum-told t c = search needs
 
 run-loop-less : (t : ℕ) → Of run-lts.Need-loop-less t
 run-loop-less t c =
-    let n = numbers t (call-of t (target-of t (size-of t (c .before .before .before .before .before .before .before)))) in omega (arith, n .ahead, n .inside)
+    let n = numbers t (call-of t (target-of t (size-of t (c .before .before .before .before .before .before .before .before .before)))) in omega (arith, n .ahead, n .inside)
 
 run-loop-again : (t : ℕ) → Of run-lts.Need-loop-again t
 run-loop-again t c =
-    let at = c .before .before .before .before .before .before .before in (still-stack t at, still-out t at, back t at (c .before .enum-told .given .1))
+    let at = c .before .before .before .before .before .before .before .before .before in
+    (still-stack t at, still-out t at, still-marks t at, back t at (c .before .enum-told .given .1))
 
 run-enum-told-2 : (t : ℕ) → Of run-lts.Need-enum-told-2 t
 run-enum-told-2 t c = search needs
 
-run-same-length-5 : (t : ℕ) → Of run-lts.Need-same-length-5 t
-run-same-length-5 t c = still-stack t (c .before .before .before .before .before .before)
+run-same-length-7 : (t : ℕ) → Of run-lts.Need-same-length-7 t
+run-same-length-7 t c = still-stack t (c .before .before .before .before .before .before .before .before)
 
-run-same-length-6 : (t : ℕ) → Of run-lts.Need-same-length-6 t
-run-same-length-6 t c = still-out t (c .before .before .before .before .before .before)
+run-same-length-8 : (t : ℕ) → Of run-lts.Need-same-length-8 t
+run-same-length-8 t c = still-out t (c .before .before .before .before .before .before .before .before)
+
+run-same-length-9 : (t : ℕ) → Of run-lts.Need-same-length-9 t
+run-same-length-9 t c = still-marks t (c .before .before .before .before .before .before .before .before)
 
 run-returns-3 : (t : ℕ) → Of run-lts.Need-returns-3 t
-run-returns-3 t c = passed t (c .before .before .before .before .before .before) (ended-goes _ (c .enum-told2 .given .1))
+run-returns-3 t c = passed t (c .before .before .before .before .before .before .before .before) (ended-goes _ (c .enum-told2 .given .1))
 
 run-enum-told-3 : (t : ℕ) → Of run-lts.Need-enum-told-3 t
 run-enum-told-3 t c = search needs
 
-run-same-length-7 : (t : ℕ) → Of run-lts.Need-same-length-7 t
-run-same-length-7 t c = still-stack t (c .before .before .before .before .before .before)
+run-same-length-10 : (t : ℕ) → Of run-lts.Need-same-length-10 t
+run-same-length-10 t c = still-stack t (c .before .before .before .before .before .before .before .before)
 
-run-same-length-8 : (t : ℕ) → Of run-lts.Need-same-length-8 t
-run-same-length-8 t c = still-out t (c .before .before .before .before .before .before)
+run-same-length-11 : (t : ℕ) → Of run-lts.Need-same-length-11 t
+run-same-length-11 t c = still-out t (c .before .before .before .before .before .before .before .before)
+
+run-same-length-12 : (t : ℕ) → Of run-lts.Need-same-length-12 t
+run-same-length-12 t c = still-marks t (c .before .before .before .before .before .before .before .before)
 
 run-returns-4 : (t : ℕ) → Of run-lts.Need-returns-4 t
-run-returns-4 t c = passed t (c .before .before .before .before .before .before) (refused-goes _ _ (c .enum-told3 .given .1))
+run-returns-4 t c = passed t (c .before .before .before .before .before .before .before .before) (refused-goes _ _ (c .enum-told3 .given .1))
 
 pub +run-spec : {M : Type 1} → statement M
 +run-spec = close μ-run λ t. run-lts.spec (callees t)
@@ -350,6 +392,7 @@ pub +run-spec : {M : Type 1} → statement M
     (run-enum-known-stop t)
     (run-same-length t)
     (run-same-length-2 t)
+    (run-same-length-3 t)
     (run-returns t)
     (run-enum-known-stop-2 t)
     (run-sub-top t)
@@ -360,10 +403,12 @@ pub +run-spec : {M : Type 1} → statement M
     (run-choose-count-requires t)
     (run-aim-requires t)
     (run-enum-known-target t)
-    (run-same-length-3 t)
     (run-same-length-4 t)
+    (run-same-length-5 t)
+    (run-same-length-6 t)
     (run-returns-2 t)
     (run-enum-known-target-2 t)
+    (run-mark-requires t)
     (run-sub-body t)
     (run-part-body-start t)
     (run-part-body-end t)
@@ -375,10 +420,12 @@ pub +run-spec : {M : Type 1} → statement M
     (run-loop-less t)
     (run-loop-again t)
     (run-enum-told-2 t)
-    (run-same-length-5 t)
-    (run-same-length-6 t)
-    (run-returns-3 t)
-    (run-enum-told-3 t)
     (run-same-length-7 t)
     (run-same-length-8 t)
+    (run-same-length-9 t)
+    (run-returns-3 t)
+    (run-enum-told-3 t)
+    (run-same-length-10 t)
+    (run-same-length-11 t)
+    (run-same-length-12 t)
     (run-returns-4 t)

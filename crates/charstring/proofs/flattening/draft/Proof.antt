@@ -1,36 +1,19 @@
-use Rattle.reading.specs.Rules.{Rules}
-use Rattle.reading.specs.Reading.{original}
-use Rattle.reading.specs.Answers.{flatOf, flattened, verdict}
-use Rattle.charstring.specs.Run.{Begins}
-use Rattle.charstring.specs.VerdictLaws.{roomy-profile}
-use mathlib.Core.Path.{_≡_, refl, subst}
+use Rattle.charstring.specs.MarksLaws.{clear-none}
 use borrow.Author.Needs.{needs}
 use Rattle.charstring.proofs.flattening.draft.Statement.{statement}
 use Rattle.charstring.proofs.flattening.draft.Tie as tie
 
-rules-of-requires : tie.Need-rules-of-requires
-rules-of-requires c κs = search needs
+slice-aggregate-draft-marking : tie.Need-slice-aggregate-draft-marking
+slice-aggregate-draft-marking c = search needs
 
-slice-aggregate-draft-by : tie.Need-slice-aggregate-draft-by
-slice-aggregate-draft-by c = search needs
-
-draft-by-requires : tie.Need-draft-by-requires
-draft-by-requires c κs =
-    let at-rules-of = c .before .before in
-    roomy-profile (at-rules-of .before .before .before .before .before .args .profile) _ (at-rules-of .rules-of .ensures) _ refl
+draft-marking-requires : tie.Need-draft-marking-requires
+draft-marking-requires c κs = clear-none
 
 same-length : tie.Need-same-length
 same-length c = search needs
 
 returns : tie.Need-returns
-returns c =
-    let drafted = c .before .before .before .draft-by in
-    let rules-of = c .before .before .before .before .before .before .rules-of in
-    let args = c .before .before .before .before .before .before .before .before .before .before .before .args in
-    subst
-    (λ (x : Rules). let run = original x (args .cs .now) (args .globals .now) (args .locals .now) (args .budget) in
-    (flattened (drafted .result) ≡ verdict x run) × Begins (drafted .last .1 .1 .1 .1 .1 .1 .0) (flatOf run))
-    (rules-of .ensures) (drafted .ensures)
+returns c = let drafted = c .before .before .before .draft-marking in (drafted .ensures .0, drafted .ensures .1 .0)
 
 pub draft-spec : {M : Type 1} → statement M
-draft-spec = tie.close (tie.spec rules-of-requires slice-aggregate-draft-by draft-by-requires same-length returns)
+draft-spec = tie.close (tie.spec slice-aggregate-draft-marking draft-marking-requires same-length returns)

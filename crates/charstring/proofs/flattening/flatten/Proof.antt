@@ -1,18 +1,19 @@
 use mathlib.Core.Path.{_≡_, sym, ap, _∙_}
 use mathlib.Core.List.{List, [], _∷_}
 use Prim.Native.Nat.{ℕ}
-use types.Run.{OneOf, miss}
+use types.Run.{OneOf}
 use denote.Enum.Declared.{tagOf}
 use Rattle.number.specs.Answer.{Answer, refused, because, Outcome, leaving}
 use Rattle.index.specs.Formed.{formation, reasonOf, reasonAt, formed}
 use Rattle.index.specs.declared.list.Formed.{Formed}
-use Rattle.index.specs.declared.list.Formed.the-variants.{Yes, No}
+use Rattle.index.specs.declared.list.Formed.the-variants.{No}
 use Rattle.index.specs.declared.list.Flaw.{Flaw}
 use Rattle.index.proofs.list.Formed as formed-type
-use Rattle.reading.specs.Rules.{Rules, rulesOf}
+use Rattle.reading.specs.Rules.{rulesOf}
 use Rattle.reading.specs.Reading.{original}
 use Rattle.reading.specs.Answers.{Flattening, listGate, outcome, flattening}
 use Rattle.reading.specs.AnswerLaws.{gate-open}
+use Rattle.charstring.proofs.Gates.{flawed, unflawed, formed-by}
 use borrow.Author.Needs.{needs}
 use Rattle.charstring.proofs.flattening.flatten.Statement.{statement}
 use Rattle.charstring.proofs.flattening.flatten.Tie as tie
@@ -21,16 +22,11 @@ use Rattle.charstring.proofs.flattening.flatten.Tie as tie
 shut : (k : ℕ) (out : List ℕ) (x : Answer ℕ) (then : Outcome (Answer Flattening)) (r : Formed) (f : Flaw)
     → r ≡ No f → formed r ≡ x → leaving (refused k (because (reasonOf f) (reasonAt f))) out ≡ listGate k out x then
 unfolding listGate
-shut k out x then r f e h = ap (λ (y : Answer ℕ). listGate k out y then) (ap formed (sym e) ∙ h)
+shut k out x then r f e h = ap (λ (y : Answer ℕ). listGate k out y then) (sym (flawed x r f e h))
 
 opened : (k : ℕ) (out : List ℕ) (x : Answer ℕ) (then : Outcome (Answer Flattening)) (r : Formed)
     → OneOf (0 ∷ []) (tagOf formed-type.the-type r) → formed r ≡ x → then ≡ listGate k out x then
-opened k out x then (Yes n) h e = sym (gate-open k out x n (sym e) then)
-opened k out x then (No f) h e = absurd (miss (0 ∷ []) 1 tt h)
-
--- at the width that the rules have
-formed-by : (list : List ℕ) (x y : Rules) (r : Formed) → x ≡ y → formed r ≡ formation (x .width) list → formed r ≡ formation (y .width) list
-formed-by list x y r e q = q ∙ ap (λ (z : Rules). formation (z .width) list) e
+opened k out x then r h e = let w = unflawed x r h e in sym (gate-open k out x (w .count) (w .is) then)
 
 globals-formed : (c : tie.After-check-list)
     → let args = c .before .before .before .before .before .before .args in

@@ -1,4 +1,4 @@
-use mathlib.Core.Path.{_≡_, sym, ap, _∙_}
+use mathlib.Core.Path.{_≡_, refl, sym, ap, _∙_}
 use mathlib.Core.List.{[], _∷_}
 use Prim.Native.Nat.{ℕ}
 use native.Mathlib.Omega.{arith}
@@ -37,13 +37,13 @@ enum-known-start : tie.Need-enum-known-start
 enum-known-start c = search needs
 
 returns : tie.Need-returns
-returns c = (none-read _ (c .before .before .before .args .tail) _ (c .before .read-entry .result) (c .match .keys2) (c .before .read-entry .ensures), tt)
+returns c = (none-read _ (c .before .before .before .args .tail) _ (c .before .read-entry .result) (c .match .keys2) (c .before .read-entry .ensures), (tt, tt))
 
 returns-2 : tie.Need-returns-2
-returns-2 c = (too-deep _ (c .before .before .before .before .before .before .args .tail) _ _ _ (lies-at (c .before .before)) (c .if1 .taken), tt)
+returns-2 c = (too-deep _ (c .before .before .before .before .before .before .args .tail) _ _ _ (lies-at (c .before .before)) (c .if1 .taken), (tt, tt))
 
 returns-3 : tie.Need-returns-3
-returns-3 c = (not-last _ _ _ _ _ (lies-at (c .before .before .before)) (c .before .if1 .left) (c .if2 .taken), tt)
+returns-3 c = (not-last _ _ _ _ _ (lies-at (c .before .before .before)) (c .before .if1 .left) (c .if2 .taken), (tt, tt))
 
 add-t13 : tie.Need-add-t13
 add-t13 c = let h = inside _ _ _ _ _ (lies-at (c .before .before .before)) in omega arith
@@ -51,7 +51,7 @@ add-t13 c = let h = inside _ _ _ _ _ (lies-at (c .before .before .before)) in om
 returns-4 : tie.Need-returns-4
 returns-4 c =
     let e = lies-at (c .before .before .before) in
-    let h = inside _ _ _ _ _ e in (entered _ _ _ _ _ e (c .before .if1 .left) (c .if2 .left), (omega arith, h))
+    let h = inside _ _ _ _ _ e in (entered _ _ _ _ _ e (c .before .if1 .left) (c .if2 .left), ((omega arith, h), refl))
 
 pub admit-spec : {M : Type 1} → statement M
 admit-spec =

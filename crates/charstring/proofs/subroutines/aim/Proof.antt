@@ -1,7 +1,7 @@
 use mathlib.Core.Path.{sym, ap, _∙_}
 use Rattle.number.specs.Call.{calleeOf}
 use Rattle.reading.specs.Rules.{meant}
-use Rattle.charstring.proofs.Targets.{aimed-entry, aimed-none}
+use Rattle.charstring.proofs.Targets.{aimed-entry, aimed-none, names-as}
 use borrow.Author.Needs.{needs}
 use Rattle.charstring.proofs.subroutines.aim.Statement.{statement}
 use Rattle.charstring.proofs.subroutines.aim.Tie as tie
@@ -25,13 +25,13 @@ returns : tie.Need-returns
 returns c =
     let args = c .before .before .before .before .before .before .args in
     let e = ap calleeOf (sym (c .before .before .k .given .1)) ∙ c .before .before .before .before .callee-of .ensures in
-    (aimed-entry (meant (args .rules)) _ _ _ _ _ _ e (c .admit .ensures .0), c .admit .ensures .1)
+    (aimed-entry (meant (args .rules)) _ _ _ _ _ _ e (c .admit .ensures .0), (c .admit .ensures .1 .0, names-as _ _ (c .admit .result) e (c .admit .ensures .1 .1)))
 
 returns-2 : tie.Need-returns-2
-returns-2 c = (aimed-none _ _ _ _ _ _ 7 (ap calleeOf (sym (c .enum-told .given .1)) ∙ c .before .before .callee-of .ensures), tt)
+returns-2 c = (aimed-none _ _ _ _ _ _ 7 (ap calleeOf (sym (c .enum-told .given .1)) ∙ c .before .before .callee-of .ensures), (tt, tt))
 
 returns-3 : tie.Need-returns-3
-returns-3 c = (aimed-none _ _ _ _ _ _ 9 (ap calleeOf (sym (c .enum-told2 .given .1)) ∙ c .before .before .callee-of .ensures), tt)
+returns-3 c = (aimed-none _ _ _ _ _ _ 9 (ap calleeOf (sym (c .enum-told2 .given .1)) ∙ c .before .before .callee-of .ensures), (tt, tt))
 
 pub aim-spec : {M : Type 1} → statement M
 aim-spec =
