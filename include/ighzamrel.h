@@ -192,6 +192,21 @@ static inline uint32_t ighzamrel_flatten_into(const uint8_t *charstring, size_t 
 }
 
 /*
+ * Flattens as ighzamrel_flatten does, with its answers and places, and marks which entries of each list the run entered,
+ * through every call: entry i at bit i mod 8, from the low end, of byte i / 8 of its list's row. For n entries a row has
+ * (n + 7) / 8 bytes: at 0 each of their bits is set or cleared, and what is lent past them stays. Any other answer leaves
+ * both rows as they were. 43, behind 1 and 2: a row has too few bytes; no place.
+ *
+ * Where no entry that is marked changes and the counts stay, neither does the answer, a byte or a mark.
+ */
+uint32_t ighzamrel_flatten_marked(const uint8_t *charstring, size_t charstring_len, const uint8_t *globals,
+                                  size_t globals_len, const uint8_t *locals, size_t locals_len, uint32_t profile,
+                                  uint32_t budget, uint8_t *out, size_t out_len, uint8_t *globals_row,
+                                  size_t globals_row_len, uint8_t *locals_row, size_t locals_row_len, size_t *length,
+                                  uint32_t *tokens, uint32_t *entry, uint32_t *reason, uint32_t *width_kind,
+                                  int32_t *width);
+
+/*
  * Writes the INDEX of the flat strings of all glyphs of a font, in their order, to the start of out, as
  * ighzamrel_write_index would. `charstrings` is the CharStrings INDEX. Each glyph of it is flattened as
  * ighzamrel_flatten would do it with enough room, under the whole budget. The answer is the first of these that holds.

@@ -7,10 +7,9 @@ use lib.ListN.{length, take, drop, set, length-set, drop-of-length-le}
 use lib.Seq.{length-take-le, take-at, take-take, take-suc-set}
 use Rattle.number.specs.Answer.{Values, Answer, accepted, refused, alone, needing, because, mapped, leaving, sized, into}
 use Rattle.number.specs.BigEndian.{bytesOf, putAt}
-use Rattle.number.specs.BigEndianLaws.{length-bytes, be-lt}
+use Rattle.number.specs.BigEndianLaws.{length-bytes}
 use Rattle.index.specs.Index.{dataStart}
-use Rattle.index.specs.Formed.{formation, reasonOf, reasonAt, formed}
-use Rattle.index.specs.FormedLaws.{well-formed}
+use Rattle.index.specs.Formed.{reasonOf, reasonAt, formed}
 use Rattle.index.specs.declared.list.Formed.{Formed}
 use Rattle.index.specs.declared.list.Formed.the-variants.{No}
 use Rattle.index.specs.declared.list.Flaw.{Flaw}
@@ -19,9 +18,8 @@ use Rattle.index_writing.specs.Code.{laid}
 use Rattle.index_writing.specs.WritingLaws.{length-offsets, reach-none, index-none, index-some, length-index, too-long, no-room, written}
 use Rattle.index_writing.specs.LaidLaws.{laid-put, laid-first}
 use Rattle.reading.specs.Rules.{rulesOf}
-use Rattle.reading.specs.Tokens.{Bytes}
+use Rattle.reading.specs.ListsLaws.{width-two}
 use Rattle.reading.specs.declared.Profile.{Profile}
-use Rattle.reading.specs.declared.Profile.the-variants.{Plain, Strict}
 use Rattle.font.specs.Font.{allFrom, lengthsOf, joinedOf, indexed, ifFormed, fontBy, flatFont, flattenFont}
 use Rattle.font.specs.Code.{stringIn, strings, before, allOf, Measured, Laid, filled}
 use Rattle.font.specs.FontLaws.{length-strings, joined-total}
@@ -137,15 +135,6 @@ shut-out k x then r f e h = ap (λ (y : Answer ℕ). ifFormed k y then) (ap form
 pub let-in : (k : ℕ) (x : Answer ℕ) (then : ℕ → Answer (List ℕ)) (n : ℕ) → accepted n ≡ x → then n ≡ ifFormed k x then
 unfolding ifFormed
 let-in k x then n e = ap (λ (y : Answer ℕ). ifFormed k y then) e
-
--- a count of two bytes
-pub few-glyphs : (s : List ℕ) → Bytes s → (n : ℕ) → accepted n ≡ formation 2 s → n ≤ 65535
-few-glyphs s b n e = let w = well-formed 2 s n e in omega (arith, w .count, be-lt s 0 2 b)
-
--- both profiles' lists have counts of two bytes
-pub width-two : (p : Profile) → rulesOf p .width ≡ 2
-width-two Plain = refl
-width-two Strict = refl
 
 -- of a profile, whose counts have two bytes
 pub font-two : (p : Profile) (charstrings globals locals : List ℕ) (budget : ℕ) (out : List ℕ)

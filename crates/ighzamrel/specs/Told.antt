@@ -7,6 +7,7 @@ use Rattle.number.specs.Answer.{Values, Answer, accepted, refused, lengthOr, to
 use Rattle.number.specs.Number.{Number}
 use Rattle.number.specs.declared.Operand.{Operand}
 use Rattle.reading.specs.Answers.{Flattening}
+use Rattle.reading.specs.Entered.{Lent, Marked}
 use Rattle.reading.specs.declared.Advance.{Advance}
 use Rattle.reading.specs.declared.Advance.the-variants.{Default, Given}
 use Rattle.reading.specs.declared.Profile.{Profile}
@@ -132,6 +133,14 @@ flatPlacesOr old v =
 
 abbrev pub tellFlattening : Outcome (Answer Flattening) → FlatPlaces → Outcome (Told FlatPlaces)
 tellFlattening o old = leaving (tell flatPlaces flatPlacesOr (o .answer) old) (o .left)
+
+-- the same of a flattening with rows, and the rows as it leaves them
+pub record ToldMarked : Type 0 where
+  pub told : Told FlatPlaces
+  pub left : Lent
+
+abbrev pub tellMarked : Marked → FlatPlaces → ToldMarked
+tellMarked o old = record { told = tell flatPlaces flatPlacesOr (o .answer) old; left = o .left }
 
 -- and those of a whole font
 pub record FontPlaces : Type 0 where

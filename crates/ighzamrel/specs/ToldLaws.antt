@@ -35,9 +35,9 @@ pub number-as : {E A : Type 0} (says : E → Answer A) {n : ℕ} {r w : E} → r
 number-as says k e = e ∙ ap (λ x. numberIn (says x)) k
 
 -- what is told of a run's refusal: the tokens t that come with it
-pub stop-told : {P : Type 0} (n : ℕ) (left : List ℕ) (places : ℕ → P) (old : ℕ) (w : Stopped) {t : ℕ} → t ≡ tokensOr old (stopValues w)
-    → leaving (told n (places t)) left ≡ leaving (told n (places (tokensOr old (stopValues w)))) left
-stop-told n left places old w e = rw e
+pub stop-told : {P : Type 0} (n : ℕ) (places : ℕ → P) (old : ℕ) (w : Stopped) {t : ℕ} → t ≡ tokensOr old (stopValues w)
+    → told n (places t) ≡ told n (places (tokensOr old (stopValues w)))
+stop-told n places old w e = rw e
 
 -- and nothing else comes with it
 abbrev withTokens : FlatPlaces → ℕ → FlatPlaces
@@ -51,13 +51,17 @@ withTokens old t =
       width = old .width;
     }
 
-pub stop-alone : (n : ℕ) (left : List ℕ) (old : FlatPlaces) (w : Stopped)
-    → leaving (told n (withTokens old (tokensOr (old .tokens) (stopValues w)))) left ≡ leaving (told n (flatPlacesOr old (stopValues w))) left
+pub stop-alone : (n : ℕ) (old : FlatPlaces) (w : Stopped)
+    → told n (withTokens old (tokensOr (old .tokens) (stopValues w))) ≡ told n (flatPlacesOr old (stopValues w))
 unfolding tokensOr entryOr
-stop-alone n left old (At k t) = refl
-stop-alone n left old (Alone k) = refl
+stop-alone n old (At k t) = refl
+stop-alone n old (Alone k) = refl
 
 -- what is told at two places that another function sets: a list's flaw, or an advance width
-pub two-told : {X Y P : Type 0} (n : ℕ) (left : List ℕ) (places : X → Y → P) {x x′ : X} {y y′ : Y} → x ≡ x′ → y ≡ y′
-    → leaving (told n (places x y)) left ≡ leaving (told n (places x′ y′)) left
-two-told n left places p q = rw (p, q)
+pub two-told : {X Y P : Type 0} (n : ℕ) (places : X → Y → P) {x x′ : X} {y y′ : Y} → x ≡ x′ → y ≡ y′
+    → told n (places x y) ≡ told n (places x′ y′)
+two-told n places p q = rw (p, q)
+
+-- and with what is left in the room
+pub with-room : {P : Type 0} (left : List ℕ) {t t′ : Told P} → t ≡ t′ → leaving t left ≡ leaving t′ left
+with-room left e = rw e

@@ -9,10 +9,10 @@ use reading::Profile;
 use reading::Stopped;
 ghost use mathlib.Core.Path.{_≡_};
 ghost use Rattle.reading.specs.Rules.{rulesOf};
-ghost use Rattle.reading.specs.Answers.{stopValues, flattening};
+ghost use Rattle.reading.specs.Answers.{stopValues, flattened as answered, flattening};
 ghost use Rattle.index.specs.Formed.{reasonOf, reasonAt};
 ghost use Rattle.number.specs.Answer.{tokensOr, entryOr, leaving};
-ghost use Rattle.ighzamrel.specs.Told.{widthKindOf, widthOr, profileOf, told, tellFlattening};
+ghost use Rattle.ighzamrel.specs.Told.{widthKindOf, widthOr, profileOf, told, tell, flatPlaces, flatPlacesOr, tellFlattening};
 
 // Flattens a charstring with its two subroutine lists into the start of out: 0, the flat string's
 // length, the tokens and the advance width, by its kind, 2 for none, and its value; 13, the length and
@@ -60,6 +60,35 @@ pub extern "C" fn ighzamrel_flatten<'a>(
         budget,
         out,
     );
+    tell_flattened(flattened, length, tokens, entry, reason, width_kind, width)
+}
+
+// Tells what flattening answers: the number, and at each place what comes with it.
+pub(crate) fn tell_flattened(
+    flattened: Flattened,
+    length: &mut usize,
+    tokens: &mut u32,
+    entry: &mut u32,
+    reason: &mut u32,
+    width_kind: &mut u32,
+    width: &mut i32,
+) -> u32
+    ensures { λ r. ⌜ told r (record {
+      length = now (length .exit);
+      tokens = now (tokens .exit);
+      entry = now («entry» .exit);
+      reason = now (reason .exit);
+      widthKind = now («width_kind» .exit);
+      width = now (width .exit);
+    }) ≡ tell flatPlaces flatPlacesOr (answered flattened) (record {
+      length = now (length .entry);
+      tokens = now (tokens .entry);
+      entry = now («entry» .entry);
+      reason = now (reason .entry);
+      widthKind = now («width_kind» .entry);
+      width = now (width .entry);
+    }) ⌝ }
+{
     match flattened {
         Flattened::Accepted(n, count, advance) => {
             *length = n;

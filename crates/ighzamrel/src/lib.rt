@@ -7,6 +7,7 @@
 mod flattening;
 mod fonts;
 mod indexes;
+mod marking;
 mod numbers;
 
 pub use crate::flattening::ighzamrel_flatten;
@@ -15,6 +16,7 @@ pub use crate::indexes::ighzamrel_check_list;
 pub use crate::indexes::ighzamrel_read_entry;
 pub use crate::indexes::ighzamrel_read_index;
 pub use crate::indexes::ighzamrel_write_index;
+pub use crate::marking::ighzamrel_flatten_marked;
 pub use crate::numbers::ighzamrel_call_index;
 pub use crate::numbers::ighzamrel_read_charstring_number;
 pub use crate::numbers::ighzamrel_read_dict_integer;

@@ -13,7 +13,8 @@ use Rattle.index.proofs.list.Formed as formed-type
 use Rattle.reading.specs.Rules.{rulesOf}
 use Rattle.font.specs.Font.{allFrom, indexed, ifFormed, fontBy, flattenFont}
 use Rattle.font.specs.Code.{glyphsOf}
-use Rattle.font.specs.WholeLaws.{shut-out, let-in, few-glyphs, font-two}
+use Rattle.reading.specs.ListsLaws.{few-entries}
+use Rattle.font.specs.WholeLaws.{shut-out, let-in, font-two}
 use borrow.Author.Needs.{needs}
 use Rattle.font.proofs.flatten_font.Statement.{statement}
 use Rattle.font.proofs.flatten_font.Tie as tie
@@ -118,7 +119,7 @@ flatten-all-requires c κs =
     let k = c .before in
     let s = k .before .before .before .before .before .before .before .before .before .before .before .before .before .before in
     let lent = k .before .before .before .before .before .before .before .before .before .before .before .before .before in
-    few-glyphs (s .args .charstrings .now) (λ i. lent .shared-slice-known .given i .fits) _ (counted k)
+    few-entries (s .args .charstrings .now) (λ i. lent .shared-slice-known .given i .fits) _ (counted k)
 
 returns-3 : tie.Need-returns-3
 returns-3 c =

@@ -1,6 +1,6 @@
 -- `ighzamrel_flatten_font` tells what `flatten_font` answers, and leaves what it leaves. Assumes nothing.
 use Rattle.ighzamrel.specs.Told.{FontPlaces, profileOf, tell}
-use Rattle.ighzamrel.specs.ToldLaws.{tell-left, stop-told, two-told, number-as}
+use Rattle.ighzamrel.specs.ToldLaws.{tell-left, stop-told, two-told, with-room, number-as}
 use Rattle.number.specs.Answer.{Answer, tokensOr, entryOr, Outcome, leaving}
 use Rattle.reading.specs.Rules.{rulesOf}
 use Rattle.reading.specs.declared.Profile.{Profile}
@@ -110,7 +110,7 @@ returns-2 c =
     let at-tell = c .before in
     let at-flattened = at-tell .before .before .before .before in
     let at-flatten = at-flattened .before .before .before .before in
-    two-told _ _ (with (start at-flatten)) (at-tell .tell-flaw .ensures .0) (at-tell .tell-flaw .ensures .1)
+    with-room _ (two-told _ (with (start at-flatten)) (at-tell .tell-flaw .ensures .0) (at-tell .tell-flaw .ensures .1))
     ∙ tell-left _ _ fontFlattened _ (at-flattened .flattened2 .given .1) _ (c .number2 .ensures) (asked at-flatten)
 
 same-length-3 : tie.Need-same-length-3
@@ -122,7 +122,7 @@ returns-3 c =
     let at-tell = c .before in
     let at-flattened = at-tell .before .before .before .before in
     let at-flatten = at-flattened .before .before .before .before in
-    two-told _ _ (with (start at-flatten)) (at-tell .tell-flaw2 .ensures .0) (at-tell .tell-flaw2 .ensures .1)
+    with-room _ (two-told _ (with (start at-flatten)) (at-tell .tell-flaw2 .ensures .0) (at-tell .tell-flaw2 .ensures .1))
     ∙ tell-left _ _ fontFlattened _ (at-flattened .flattened3 .given .1) _ (c .number3 .ensures) (asked at-flatten)
 
 same-length-4 : tie.Need-same-length-4
@@ -134,7 +134,7 @@ returns-4 c =
     let at-tell = c .before in
     let at-flattened = at-tell .before .before .before .before in
     let at-flatten = at-flattened .before .before .before .before in
-    two-told _ _ (with (start at-flatten)) (at-tell .tell-flaw3 .ensures .0) (at-tell .tell-flaw3 .ensures .1)
+    with-room _ (two-told _ (with (start at-flatten)) (at-tell .tell-flaw3 .ensures .0) (at-tell .tell-flaw3 .ensures .1))
     ∙ tell-left _ _ fontFlattened _ (at-flattened .flattened4 .given .1) _ (c .number4 .ensures) (asked at-flatten)
 
 same-length-5 : tie.Need-same-length-5
@@ -147,7 +147,7 @@ returns-5 c =
     let at-flattened = at-tell .before .before .before in
     let at-flatten = at-flattened .before .before .before .before in
     let known = at-flattened .flattened5 .given .0 in
-    stop-told _ _ (ran (start at-flatten) (known .0)) (start at-flatten .args .tokens .now) (known .1 .0) (at-tell .tell-stop .ensures)
+    with-room _ (stop-told _ (ran (start at-flatten) (known .0)) (start at-flatten .args .tokens .now) (known .1 .0) (at-tell .tell-stop .ensures))
     ∙ tell-left _ _ fontFlattened _ (at-flattened .flattened5 .given .1) _ (c .number5 .ensures) (asked at-flatten)
 
 same-length-6 : tie.Need-same-length-6
