@@ -1,7 +1,7 @@
 -- Each public function's contract fixes its result and what it leaves: any two that it allows for the same arguments are one; of `draft`, the flat
 -- string. Stated over the contracts' own readings. Assumes nothing.
 use mathlib.Core.Path.{_≡_, refl, sym, ap, _∙_}
-use mathlib.Core.Bool.{cond}
+use mathlib.Core.Bool.{Bool, false, cond}
 use Prim.Native.Nat.{ℕ, _<_}
 use lib.Dec.{eqb}
 use lib.ListN.{length, getD}
@@ -22,6 +22,9 @@ use Rattle.reading.specs.declared.Stopped.{Stopped}
 use Rattle.reading.specs.declared.Stopped.the-variants.{At, Alone}
 use Rattle.reading.specs.declared.Flattened.{Flattened}
 use Rattle.reading.specs.declared.Flattened.the-variants.{Accepted, BadGlobals, BadLocals, Refused, NoRoom}
+use Rattle.reading.specs.Entered.{Lent, Marked, asLent, flattenedMarked}
+use Rattle.reading.specs.declared.FlattenedMarked.{FlattenedMarked}
+use Rattle.reading.specs.declared.FlattenedMarked.the-variants.{As, ShortRow}
 use Rattle.charstring.specs.Run.{Begins}
 use Rattle.charstring.proofs.flattening.draft.Kinds as draft-kinds
 use Rattle.charstring.proofs.flattening.draft.Reads as draft-reads
@@ -31,6 +34,8 @@ use Rattle.charstring.proofs.flattening.write.Kinds as write-kinds
 use Rattle.charstring.proofs.flattening.write.Reads as write-reads
 use Rattle.charstring.proofs.flattening.measure.Kinds as measure-kinds
 use Rattle.charstring.proofs.flattening.measure.Reads as measure-reads
+use Rattle.charstring.proofs.marking.flatten_marked.Kinds as marked-kinds
+use Rattle.charstring.proofs.marking.flatten_marked.Reads as marked-reads
 
 -- ---- the ways back, from what an answer says to the answer
 
@@ -113,6 +118,58 @@ write-once κs a r r′ x x′ p p′ = let e = p ∙ sym p′ in (told-once r r
 pub measure-once : (κs : Lfts 1) (a : Dens κs measure-kinds.ps) (r r′ : resT measure-kinds.r κs .Denot)
     (x x′ : AtExit (endedOf 1 measure-kinds.ps measure-kinds.r) κs) → measure-reads.Post κs a r x → measure-reads.Post κs a r′ x′ → r ≡ r′
 measure-once κs a r r′ x x′ p p′ = told-once r r′ (p ∙ sym p′)
+
+-- ---- with rows
+
+not-43 : (k : Refusal) → eqb (numberOf k) 43 ≡ false
+not-43 BudgetSpent = refl
+not-43 BytesLacking = refl
+not-43 TooManyOperands = refl
+not-43 UnknownOperator = refl
+not-43 NoIndex = refl
+not-43 IndexNotLast = refl
+not-43 NoEntry = refl
+not-43 TooDeep = refl
+not-43 TooManyHints = refl
+not-43 Composite = refl
+not-43 OperandsAtMask = refl
+not-43 NoEndchar = refl
+
+abbrev marked-by : Bool → Answer Flattening → FlattenedMarked
+marked-by short x = cond short ShortRow (As (flattened-of x))
+
+marked-of : Answer Flattening → FlattenedMarked
+marked-of (accepted x) = As (flattened-of (accepted x))
+marked-of (refused k v) = marked-by (eqb k 43) (refused k v)
+
+marked-as : (r : Flattened) → marked-of (flattened r) ≡ As (flattened-of (flattened r))
+unfolding marked-of
+marked-as (Accepted n t w) = refl
+marked-as (BadGlobals f) = refl
+marked-as (BadLocals f) = refl
+marked-as (Refused (At k t)) = ap (λ (b : Bool). marked-by b (refused (numberOf k) (atToken t))) (not-43 k)
+marked-as (Refused (Alone k)) = ap (λ (b : Bool). marked-by b (refused (numberOf k) alone)) (not-43 k)
+marked-as (NoRoom n t) = refl
+
+marked-undo : (r : FlattenedMarked) → marked-of (flattenedMarked r) ≡ r
+unfolding marked-of
+marked-undo (As r) = marked-as r ∙ ap As (flattened-undo r)
+marked-undo ShortRow = refl
+
+-- what is told of two results, and left by them, is one
+pub marked-once : (r r′ : FlattenedMarked) (l l′ : Lent) → asLent l (flattenedMarked r) ≡ asLent l′ (flattenedMarked r′) → (r ≡ r′) × (l ≡ l′)
+marked-once r r′ l l′ e =
+    (sym (marked-undo r) ∙ ap (λ (m : Marked). marked-of (m .answer)) e ∙ marked-undo r′, ap (λ (m : Marked). m .left) e)
+
+pub flatten-marked-once : (κs : Lfts 4) (a : Dens κs marked-kinds.ps) (r r′ : resT marked-kinds.r κs .Denot)
+    (x x′ : AtExit (endedOf 4 marked-kinds.ps marked-kinds.r) κs) → marked-reads.Post κs a r x → marked-reads.Post κs a r′ x′
+    → (r ≡ r′) × (x .1 .1 .1 .1 .1 .0 .now ≡ x′ .1 .1 .1 .1 .1 .0 .now)
+    × (x .1 .1 .1 .1 .1 .1 .0 .now ≡ x′ .1 .1 .1 .1 .1 .1 .0 .now) × (x .1 .1 .1 .1 .1 .1 .1 .0 .now ≡ x′ .1 .1 .1 .1 .1 .1 .1 .0 .now)
+flatten-marked-once κs a r r′ x x′ p p′ =
+    let o = marked-once r r′ _ _ (p ∙ sym p′) in
+    (o .0, ap (λ (l : Lent). l .room) (o .1), ap (λ (l : Lent). l .globals) (o .1), ap (λ (l : Lent). l .locals) (o .1))
+
+-- ---- a draft
 
 -- `draft` lends back the flat string as far as the room goes, and behind it what a run happens to leave (docs/LOOSE.md)
 pub draft-once : (κs : Lfts 2) (a : Dens κs draft-kinds.ps) (r r′ : resT draft-kinds.r κs .Denot)

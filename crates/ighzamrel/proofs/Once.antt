@@ -6,7 +6,7 @@ use contract.Lifetimes.{Lfts}
 use denote.Triple.Clauses.{AtExit}
 use Rattle.number.specs.Answer.{Outcome}
 use Rattle.index.specs.Index.{Extent, Place}
-use Rattle.ighzamrel.specs.Told.{Told, NumberPlaces, IntegerPlaces, ListPlaces, FlatPlaces, FontPlaces}
+use Rattle.ighzamrel.specs.Told.{Told, NumberPlaces, IntegerPlaces, ListPlaces, FlatPlaces, ToldMarked, FontPlaces}
 use Rattle.ighzamrel.proofs.numbers.ighzamrel_read_charstring_number.Kinds as charstring-kinds
 use Rattle.ighzamrel.proofs.numbers.ighzamrel_read_charstring_number.Reads as charstring-reads
 use Rattle.ighzamrel.proofs.numbers.ighzamrel_read_dict_integer.Kinds as dict-kinds
@@ -27,6 +27,8 @@ use Rattle.ighzamrel.proofs.indexes.ighzamrel_write_index.Kinds as writ
 use Rattle.ighzamrel.proofs.indexes.ighzamrel_write_index.Reads as write-reads
 use Rattle.ighzamrel.proofs.flattening.ighzamrel_flatten.Kinds as flatten-kinds
 use Rattle.ighzamrel.proofs.flattening.ighzamrel_flatten.Reads as flatten-reads
+use Rattle.ighzamrel.proofs.marking.ighzamrel_flatten_marked.Kinds as marked-kinds
+use Rattle.ighzamrel.proofs.marking.ighzamrel_flatten_marked.Reads as marked-reads
 use Rattle.ighzamrel.proofs.fonts.ighzamrel_flatten_font.Kinds as font-kinds
 use Rattle.ighzamrel.proofs.fonts.ighzamrel_flatten_font.Reads as font-reads
 
@@ -125,6 +127,32 @@ flatten-once κs a r r′ x x′ p p′ =
       ap (λ (y : FlatPlaces). y .reason) (w .2),
       ap (λ (y : FlatPlaces). y .widthKind) (w .2),
       ap (λ (y : FlatPlaces). y .width) (w .2),
+    )
+
+pub flatten-marked-once : (κs : Lfts 10) (a : Dens κs marked-kinds.ps) (r r′ : resT marked-kinds.r κs .Denot)
+    (x x′ : AtExit (endedOf 10 marked-kinds.ps marked-kinds.r) κs)
+    → marked-reads.Post κs a r x → marked-reads.Post κs a r′ x′
+    → (r ≡ r′) × (x .1 .1 .1 .1 .1 .0 .now ≡ x′ .1 .1 .1 .1 .1 .0 .now)
+    × (x .1 .1 .1 .1 .1 .1 .0 .now ≡ x′ .1 .1 .1 .1 .1 .1 .0 .now)
+    × (x .1 .1 .1 .1 .1 .1 .1 .0 .now ≡ x′ .1 .1 .1 .1 .1 .1 .1 .0 .now)
+    × (x .1 .1 .1 .1 .1 .1 .1 .1 .0 .now ≡ x′ .1 .1 .1 .1 .1 .1 .1 .1 .0 .now)
+    × (x .1 .1 .1 .1 .1 .1 .1 .1 .1 .0 .now ≡ x′ .1 .1 .1 .1 .1 .1 .1 .1 .1 .0 .now)
+    × (x .1 .1 .1 .1 .1 .1 .1 .1 .1 .1 .0 .now ≡ x′ .1 .1 .1 .1 .1 .1 .1 .1 .1 .1 .0 .now)
+    × (x .1 .1 .1 .1 .1 .1 .1 .1 .1 .1 .1 .0 .now ≡ x′ .1 .1 .1 .1 .1 .1 .1 .1 .1 .1 .1 .0 .now)
+    × (x .1 .1 .1 .1 .1 .1 .1 .1 .1 .1 .1 .1 .0 .now ≡ x′ .1 .1 .1 .1 .1 .1 .1 .1 .1 .1 .1 .1 .0 .now)
+    × (x .1 .1 .1 .1 .1 .1 .1 .1 .1 .1 .1 .1 .1 .0 .now ≡ x′ .1 .1 .1 .1 .1 .1 .1 .1 .1 .1 .1 .1 .1 .0 .now)
+flatten-marked-once κs a r r′ x x′ p p′ =
+    let e = p ∙ sym p′ in (
+      ap (λ (t : ToldMarked). t .told .number) e,
+      ap (λ (t : ToldMarked). t .left .room) e,
+      ap (λ (t : ToldMarked). t .left .globals) e,
+      ap (λ (t : ToldMarked). t .left .locals) e,
+      ap (λ (t : ToldMarked). t .told .places .length) e,
+      ap (λ (t : ToldMarked). t .told .places .tokens) e,
+      ap (λ (t : ToldMarked). t .told .places .entry) e,
+      ap (λ (t : ToldMarked). t .told .places .reason) e,
+      ap (λ (t : ToldMarked). t .told .places .widthKind) e,
+      ap (λ (t : ToldMarked). t .told .places .width) e,
     )
 
 pub flatten-font-once : (κs : Lfts 7) (a : Dens κs font-kinds.ps) (r r′ : resT font-kinds.r κs .Denot)
