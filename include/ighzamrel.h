@@ -7,17 +7,19 @@
  * Places. A pointer to a single value is a place for a part of the answer. A place for a value that the
  * answer does not give is left as it was.
  *
- * Lent bytes. Inputs are never changed. A refusal changes no byte of `out`; acceptance changes only the
- * first *length bytes of it.
+ * Lent bytes. Inputs are never changed. A refusal changes no byte of `out` and of the rows of
+ * ighzamrel_flatten_marked; acceptance changes only the first *length bytes of `out`, and of a row as many as its list
+ * needs.
  *
  * Pointers. A slice is a pointer, `x`, and then how many elements it has, `x_len`. Every pointer is valid
- * for its length and aligned, and none is null, also where the length is 0. `out` and the places overlap nothing: no
- * input, and not each other. Inputs may overlap each other.
+ * for its length and aligned, and none is null, also where the length is 0. `out`, the rows and the places overlap
+ * nothing: no input, and not each other. Inputs may overlap each other.
  *
  * There is no state, nothing is allocated, and nothing is called but memcpy and memset; so any threads may
- * call at once, each with its own `out` and places. ighzamrel_flatten goes one call deeper for each call of
- * the charstring: at 64 strings deep, the most in plain, it used less than 44 KiB of stack, at 11, the most
- * in strict, less than 11 KiB. ighzamrel_flatten_font keeps what it can of a font in 64 KiB of stack besides: it
+ * call at once, each with its own `out`, rows and places. ighzamrel_flatten goes one call deeper for each call of
+ * the charstring: at 64 strings deep, the most in plain, it used less than 48 KiB of stack, at 11, the most
+ * in strict, less than 11 KiB. ighzamrel_flatten_marked keeps the marks in 16 KiB of stack besides: it used less than
+ * 64 KiB in plain, less than 28 KiB in strict. ighzamrel_flatten_font keeps what it can of a font in 64 KiB besides: it
  * used less than 112 KiB in plain, less than 80 KiB in strict. Each other function used less than 200 bytes
  * (x86-64; docs/BENCHMARKS.md says how that was measured).
  *
@@ -62,7 +64,8 @@ enum ighzamrel_answer {
     IGHZAMREL_BAD_CHARSTRINGS = 26,   /* the CharStrings INDEX is not well formed */
     IGHZAMREL_ZERO_OFFSET = 40,       /* an offset of the entry, or the INDEX's last, is 0 */
     IGHZAMREL_DESCENDING = 41,        /* the offsets of the entry descend */
-    IGHZAMREL_PAST_DATA = 42          /* the offsets of the entry pass the data */
+    IGHZAMREL_PAST_DATA = 42,         /* the offsets of the entry pass the data */
+    IGHZAMREL_ROW_TOO_SHORT = 43      /* a row is too short for its list's entries */
 };
 
 /* The kind of an operand, `kind`. What is not 0 is taken as a Fixed; reading gives 0 or 1. */
@@ -162,7 +165,7 @@ uint32_t ighzamrel_flatten(const uint8_t *charstring, size_t charstring_len, con
                            uint32_t budget, uint8_t *out, size_t out_len, size_t *length, uint32_t *tokens,
                            uint32_t *entry, uint32_t *reason, uint32_t *width_kind, int32_t *width);
 
-/* What ighzamrel_flatten answers and sets. A later version may have more, behind these. */
+/* What ighzamrel_flatten and ighzamrel_flatten_marked answer and set. A later version may have more, behind these. */
 typedef struct ighzamrel_flattening {
     uint32_t answer;
     size_t length;
@@ -192,12 +195,16 @@ static inline uint32_t ighzamrel_flatten_into(const uint8_t *charstring, size_t 
 }
 
 /*
- * Flattens as ighzamrel_flatten does, with its answers and places, and marks which entries of each list the run entered,
- * through every call: entry i at bit i mod 8, from the low end, of byte i / 8 of its list's row. For n entries a row has
- * (n + 7) / 8 bytes: at 0 each of their bits is set or cleared, and what is lent past them stays. Any other answer leaves
- * both rows as they were. 43, behind 1 and 2: a row has too few bytes; no place.
+ * Flattens as ighzamrel_flatten does, with its answers and places, and marks which subroutines the charstring uses: in the
+ * row of each list every entry that the run entered, through every call. A row has a bit for each entry: entry i is
+ * marked where (row[i / 8] >> i % 8) & 1 is 1. A list of n entries needs (n + 7) / 8 bytes, at most 8192.
+ * 0: besides the places, all bits of those bytes of each row, set or cleared, so a row need not be cleared before. Bytes
+ * that are lent behind them stay. Every refusal leaves both rows as they were, whatever the run had entered.
+ * 43, after 1 and 2 and before anything is run, where a row has fewer bytes than its list needs: no place.
  *
- * Where no entry that is marked changes and the counts stay, neither does the answer, a byte or a mark.
+ * What the rows are for: where the lists are changed, but stay well formed with the same counts, and no marked entry has
+ * changed, the same call gives the same answer, places, bytes and rows. So a change of one subroutine asks again for the
+ * glyphs that have it marked, and for those that were refused, of which no row is told; and for no other.
  */
 uint32_t ighzamrel_flatten_marked(const uint8_t *charstring, size_t charstring_len, const uint8_t *globals,
                                   size_t globals_len, const uint8_t *locals, size_t locals_len, uint32_t profile,
@@ -205,6 +212,27 @@ uint32_t ighzamrel_flatten_marked(const uint8_t *charstring, size_t charstring_l
                                   size_t globals_row_len, uint8_t *locals_row, size_t locals_row_len, size_t *length,
                                   uint32_t *tokens, uint32_t *entry, uint32_t *reason, uint32_t *width_kind,
                                   int32_t *width);
+
+/* Calls ighzamrel_flatten_marked with the places of *result, and gives its answer; what that does not set is 0. */
+static inline uint32_t ighzamrel_flatten_marked_into(const uint8_t *charstring, size_t charstring_len,
+                                                     const uint8_t *globals, size_t globals_len, const uint8_t *locals,
+                                                     size_t locals_len, uint32_t profile, uint32_t budget, uint8_t *out,
+                                                     size_t out_len, uint8_t *globals_row, size_t globals_row_len,
+                                                     uint8_t *locals_row, size_t locals_row_len,
+                                                     ighzamrel_flattening *result)
+{
+    result->length = 0;
+    result->tokens = 0;
+    result->entry = 0;
+    result->reason = 0;
+    result->width_kind = 0;
+    result->width = 0;
+    result->answer = ighzamrel_flatten_marked(charstring, charstring_len, globals, globals_len, locals, locals_len,
+                                              profile, budget, out, out_len, globals_row, globals_row_len, locals_row,
+                                              locals_row_len, &result->length, &result->tokens, &result->entry,
+                                              &result->reason, &result->width_kind, &result->width);
+    return result->answer;
+}
 
 /*
  * Writes the INDEX of the flat strings of all glyphs of a font, in their order, to the start of out, as

@@ -1,6 +1,7 @@
 /*
  * One charstring made flat, the same charstring refused, and a list of subroutines that is damaged; the glyphs of a
- * whole font; what the strict profile refuses beyond the plain one; and charstrings that say their width.
+ * whole font; what the strict profile refuses beyond the plain one; charstrings that say their width; and which
+ * subroutines a charstring uses.
  *
  *     cc example.c $(pkg-config --cflags --libs ighzamrel)
  */
@@ -10,6 +11,9 @@
 
 /* The most tokens to run for one glyph, through every call: what bounds the time that a font can take. */
 enum { BUDGET = 100000, ROOM = 64 };
+
+/* A row of so many bytes serves any list, for none of CFF has more than 65535 entries. */
+enum { ROW = 8192 };
 
 /* What a refusal of a charstring says to a person; the header has the whole list. */
 static const char *in_words(uint32_t answer)
@@ -23,6 +27,7 @@ static const char *in_words(uint32_t answer)
     case IGHZAMREL_NO_ENDCHAR: return "the glyph comes to its end without endchar";
     case IGHZAMREL_SHORT: return "the result is longer than the room for it";
     case IGHZAMREL_BAD_CHARSTRINGS: return "the font's list of glyphs is damaged";
+    case IGHZAMREL_ROW_TOO_SHORT: return "a row is too short for the font's list of subroutines";
     default: return "the glyph's charstring is damaged or not supported";
     }
 }
@@ -39,7 +44,7 @@ static void explain_list(uint32_t reason, uint32_t entry)
     }
 }
 
-/* 1 and 2 come with a reason, 3 to 13 with the tokens, and 15 and 16 with neither. */
+/* 1 and 2 come with a reason, 3 to 13 with the tokens, and 15, 16 and 43 with neither. */
 static void explain(const ighzamrel_flattening *flat)
 {
     printf("refused with %u", (unsigned)flat->answer);
@@ -133,6 +138,45 @@ static void check(const uint8_t *list, size_t list_len)
     explain_list(answer, entry);
 }
 
+/* The entries of a list that are marked in its row: entry i at bit i mod 8 of byte i / 8. */
+static void show_marked(const uint8_t *list, size_t list_len, const uint8_t *row)
+{
+    uint32_t count = 0, entry = 0, i;
+    (void)ighzamrel_check_list(list, list_len, &count, &entry);
+    for (i = 0; i < count; i++)
+        if ((row[i / 8] >> i % 8) & 1)
+            printf(" %u", (unsigned)i);
+}
+
+/* Which subroutines a glyph uses. Where none of these is changed, it need not be flattened again. */
+static void show_used(const uint8_t *charstring, size_t charstring_len, const uint8_t *globals, size_t globals_len,
+                      const uint8_t *locals, size_t locals_len)
+{
+    static uint8_t globals_row[ROW], locals_row[ROW];
+    uint8_t out[ROOM];
+    ighzamrel_flattening flat;
+    if (ighzamrel_flatten_marked_into(charstring, charstring_len, globals, globals_len, locals, locals_len, IGHZAMREL_PLAIN,
+                                      BUDGET, out, sizeof out, globals_row, sizeof globals_row, locals_row,
+                                      sizeof locals_row, &flat) != IGHZAMREL_ACCEPTED) {
+        explain(&flat);
+        return;
+    }
+    printf("the glyph uses the global subroutines");
+    show_marked(globals, globals_len, globals_row);
+    printf(" and the local subroutines");
+    show_marked(locals, locals_len, locals_row);
+    printf("\n");
+}
+
+static void used(void)
+{
+    /* calls of local 0, which is 1 2 rmoveto, and of local 2, which calls global 1; global 0 and local 1 are not used */
+    static const uint8_t calls[] = {0x20, 0x0A, 0x22, 0x0A, 0x0E};
+    static const uint8_t two[] = {0x00, 0x02, 0x01, 0x01, 0x02, 0x05, 0x0B, 0x8C, 0x16, 0x0B};
+    static const uint8_t three[] = {0x00, 0x03, 0x01, 0x01, 0x05, 0x06, 0x09, 0x8C, 0x8D, 0x15, 0x0B, 0x0B, 0x21, 0x1D, 0x0B};
+    show_used(calls, sizeof calls, two, sizeof two, three, sizeof three);
+}
+
 int main(void)
 {
     /* -107 callsubr endchar: with the bias 107, a call of entry 0 of the local list, which is 1 2 rmoveto return */
@@ -168,5 +212,6 @@ int main(void)
     show_font(IGHZAMREL_STRICT, unfinished_font, sizeof unfinished_font, no_list, sizeof no_list);
     show(IGHZAMREL_PLAIN, wide, sizeof wide, locals, sizeof locals);
     show(IGHZAMREL_PLAIN, narrow, sizeof narrow, no_list, sizeof no_list);
+    used();
     return 0;
 }

@@ -4,54 +4,8 @@
  */
 #include "ighzamrel.h"
 
-#include <stdio.h>
-#include <stdlib.h>
-#include <string.h>
-
-static unsigned checks;
-
-static void expect(int holds, int line)
-{
-    checks++;
-    if (!holds) {
-        fprintf(stderr, "smoke: tools/c/smoke.c:%d does not hold\n", line);
-        exit(1);
-    }
-}
-
-#define EXPECT(test) expect((test) != 0, __LINE__)
-
-/* What the places and the room hold before each call. */
-enum { UNTOUCHED = 77, BLANK = 0xA5, ROOM = 32 };
-
-static uint8_t out[ROOM];
-static size_t length;
-static uint32_t glyph, tokens, entry, reason, width_kind;
-static int32_t width;
-
-static void clear(void)
-{
-    memset(out, BLANK, sizeof out);
-    length = UNTOUCHED;
-    glyph = tokens = entry = reason = width_kind = UNTOUCHED;
-    width = UNTOUCHED;
-}
-
-/* Whether out starts with these bytes, and is blank behind them. */
-static int holds(const uint8_t *bytes, size_t n)
-{
-    size_t i;
-    for (i = n; i < ROOM; i++)
-        if (out[i] != BLANK)
-            return 0;
-    return memcmp(out, bytes, n) == 0;
-}
-
-static int blank(void) { return holds(out, 0); }
-
-#define BYTES(...) ((const uint8_t[]){__VA_ARGS__}), sizeof((const uint8_t[]){__VA_ARGS__})
-/* no bytes: the pointer is valid all the same */
-#define NONE ((const uint8_t[]){0}), 0
+#include "expect.h"
+#include "marked.h"
 
 static void numbers_read(const uint8_t *bytes, size_t n, uint32_t answer, uint32_t kind, int32_t value, size_t width)
 {
@@ -135,10 +89,6 @@ static void call_indexes(void)
     call_index(IGHZAMREL_FIXED, 0x7FFFFFFF, IGHZAMREL_PLAIN, 0, 32768);
 }
 
-/* the local list L of docs/RULES.md, and a font's list that has no entries */
-static const uint8_t L[] = {0x00, 0x01, 0x01, 0x01, 0x05, 0x8C, 0x8D, 0x15, 0x0B};
-static const uint8_t EMPTY[] = {0x00, 0x00};
-
 static void index_read(const uint8_t *bytes, size_t n, uint32_t answer, uint32_t count, size_t taken)
 {
     uint32_t c = UNTOUCHED;
@@ -189,9 +139,6 @@ static void indexes(void)
     index_written(lengths, 2, data, 1, 6, 13, 7);
     index_written(lengths, 2, data, 0, ROOM, 24, UNTOUCHED);
 }
-
-/* What a struct has for what a place holds: 0 where that was left as it was. */
-static size_t given(size_t held) { return held == UNTOUCHED ? 0 : held; }
 
 /* Flattens, by the places and by the struct: both must have this answer and these values, and the room these bytes; NULL is blank. */
 static void flattened(const uint8_t *charstring, size_t n, const uint8_t *globals, size_t globals_len, const uint8_t *locals,
@@ -492,6 +439,7 @@ static void bad_list(const uint8_t *list, size_t n, uint32_t why, uint32_t bad)
     flattened(charstring, 1, list, n, EMPTY, 1, limits, &globals, NULL);
     flattened(charstring, 1, L, sizeof L, list, n, limits, &locals, NULL);
     bad_font(list, n, why, bad);
+    bad_list_with_rows(list, n, why, bad);
     if (bad != UNTOUCHED)
         entry_read(list, n, bad, why, UNTOUCHED, UNTOUCHED);
 }
@@ -520,8 +468,11 @@ int main(void)
     widths();
     masks();
     ends();
+    make_lists();
+    marks();
+    marks_refused();
     fonts();
     bad_lists();
-    printf("smoke: eleven functions, %u checks hold\n", checks);
+    printf("smoke: twelve functions, %u checks hold\n", checks);
     return 0;
 }

@@ -20,7 +20,7 @@ static void (*work)(void);
 static long depth;
 static uint32_t answer;
 
-static uint8_t charstring[64], locals[4096], charstrings[64 * MOST_GLYPHS], out[ROOM];
+static uint8_t charstring[64], locals[4096], charstrings[64 * MOST_GLYPHS], out[ROOM], globals_row[1], locals_row[8];
 static size_t charstring_len, locals_len, charstrings_len, place, length;
 static uint32_t kind, glyph, tokens, entry, reason, width_kind;
 static int32_t value, width;
@@ -97,6 +97,15 @@ static void flatten(uint32_t profile)
 
 static void flatten_plain(void) { flatten(IGHZAMREL_PLAIN); }
 static void flatten_strict(void) { flatten(IGHZAMREL_STRICT); }
+static void flatten_marked(uint32_t profile)
+{
+    answer = ighzamrel_flatten_marked(charstring, charstring_len, globals, sizeof globals, locals, locals_len, profile, 1000000,
+                                      out, ROOM, globals_row, sizeof globals_row, locals_row, sizeof locals_row, &length,
+                                      &tokens, &entry, &reason, &width_kind, &width);
+}
+
+static void flatten_marked_plain(void) { flatten_marked(IGHZAMREL_PLAIN); }
+static void flatten_marked_strict(void) { flatten_marked(IGHZAMREL_STRICT); }
 static void flatten_font(uint32_t profile)
 {
     answer = ighzamrel_flatten_font(charstrings, charstrings_len, globals, sizeof globals, locals, locals_len, profile,
@@ -146,7 +155,7 @@ static void measure(const char *name, void (*function)(void))
     pthread_attr_destroy(&attributes);
     if (answer != 0)
         fail(name);
-    printf("%-36s %6ld bytes\n", name, depth);
+    printf("%-40s %6ld bytes\n", name, depth);
 }
 
 /* A font of the chain, in few bytes and in more than a call keeps. */
@@ -169,10 +178,15 @@ int main(void)
     measure("flatten, plain, 64 strings deep", flatten_plain);
     if (tokens != 63 * 6 + 5)
         fail("the chain is not 64 deep");
+    measure("flatten_marked, plain, 64 strings deep", flatten_marked_plain);
+    if (locals_row[0] != 0xFF || locals_row[7] != 0x7F)
+        fail("the chain's 63 entries are not marked");
     measure_fonts("flatten_font, plain, one glyph", "flatten_font, plain, 700 glyphs", flatten_font_plain);
     chain(10);
     measure("flatten, plain, 11 strings deep", flatten_plain);
     measure("flatten, strict, 11 strings deep", flatten_strict);
+    measure("flatten_marked, plain, 11 strings deep", flatten_marked_plain);
+    measure("flatten_marked, strict, 11 strings deep", flatten_marked_strict);
     measure_fonts("flatten_font, strict, one glyph", "flatten_font, strict, 700 glyphs", flatten_font_strict);
     measure("read_charstring_number", read_charstring_number);
     measure("read_dict_integer", read_dict_integer);

@@ -1,7 +1,7 @@
-//! The eleven C functions, each behind a safe function that lends it slices and places of its own.
+//! The twelve C functions, each behind a safe function that lends it slices and places of its own.
 //!
 //! What include/ighzamrel.h asks of pointers holds of what is lent here: a slice's pointer is valid for its length,
-//! aligned and never null, also where it is empty; `out` is borrowed alone, and so are the places.
+//! aligned and never null, also where it is empty; `out` is borrowed alone, and so are the rows and the places.
 //! A value whose place the answer leaves as it was is 0; the caller knows by the answer which those are.
 #![allow(unsafe_code)]
 
@@ -82,6 +82,29 @@ pub mod c {
             budget: u32,
             out: *mut u8,
             out_len: usize,
+            length: *mut usize,
+            tokens: *mut u32,
+            entry: *mut u32,
+            reason: *mut u32,
+            width_kind: *mut u32,
+            width: *mut i32,
+        ) -> u32;
+
+        pub fn ighzamrel_flatten_marked(
+            charstring: *const u8,
+            charstring_len: usize,
+            globals: *const u8,
+            globals_len: usize,
+            locals: *const u8,
+            locals_len: usize,
+            profile: u32,
+            budget: u32,
+            out: *mut u8,
+            out_len: usize,
+            globals_row: *mut u8,
+            globals_row_len: usize,
+            locals_row: *mut u8,
+            locals_row_len: usize,
             length: *mut usize,
             tokens: *mut u32,
             entry: *mut u32,
@@ -235,6 +258,41 @@ pub fn flatten_to(
             budget,
             out.as_mut_ptr(),
             out.len(),
+            &mut places.length,
+            &mut places.tokens,
+            &mut places.entry,
+            &mut places.reason,
+            &mut places.width_kind,
+            &mut places.width,
+        )
+    }
+}
+
+/// The answer; a place that it does not give is left as it was. The rows are the globals' and the locals'.
+pub fn flatten_marked_to(
+    [charstring, globals, locals]: [&[u8]; 3],
+    profile: u32,
+    budget: u32,
+    out: &mut [u8],
+    [globals_row, locals_row]: [&mut [u8]; 2],
+    places: &mut Places,
+) -> u32 {
+    unsafe {
+        c::ighzamrel_flatten_marked(
+            charstring.as_ptr(),
+            charstring.len(),
+            globals.as_ptr(),
+            globals.len(),
+            locals.as_ptr(),
+            locals.len(),
+            profile,
+            budget,
+            out.as_mut_ptr(),
+            out.len(),
+            globals_row.as_mut_ptr(),
+            globals_row.len(),
+            locals_row.as_mut_ptr(),
+            locals_row.len(),
             &mut places.length,
             &mut places.tokens,
             &mut places.entry,

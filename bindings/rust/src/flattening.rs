@@ -78,12 +78,17 @@ pub fn flatten(
     let mut places = ffi::Places::default();
     let lent = [charstring, globals, locals];
     let answer = ffi::flatten_to(lent, profile.number(), budget, out, &mut places);
+    flat(answer, &places)
+}
+
+/// What a flattening of one charstring tells in its places.
+pub(crate) fn flat(answer: u32, places: &ffi::Places) -> Result<Flat, Refused> {
     let flat = Flat {
         length: places.length,
         tokens: places.tokens,
-        width: width(&places),
+        width: width(places),
     };
-    told_with(answer, flat, offered(&places))
+    told_with(answer, flat, offered(places))
 }
 
 /// The width that an accepted charstring says.
@@ -135,7 +140,7 @@ pub fn flatten_to_vec(
 pub(crate) fn in_vec<T>(
     first: usize,
     most: usize,
-    run: impl Fn(&mut [u8]) -> Result<(usize, T), Refused>,
+    mut run: impl FnMut(&mut [u8]) -> Result<(usize, T), Refused>,
 ) -> Result<(Vec<u8>, T), Refused> {
     let mut bytes = vec![0; first.min(most)];
     let (length, told) = match run(&mut bytes) {

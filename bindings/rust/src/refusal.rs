@@ -89,6 +89,7 @@ refusals! {
     40 ZeroOffset [Entry] "an offset of the entry, or the INDEX's last, is 0" {"an offset, or the list's last, is 0"}
     41 Descending [Entry] "the offsets of the entry descend" {"its offsets descend"}
     42 PastData [Entry] "the offsets of the entry pass the data" {"its offsets pass the data"}
+    43 RowTooShort [] "a row is too short for its list's entries"
 }
 
 impl Refusal {
@@ -188,8 +189,8 @@ pub struct Refused {
     /// Where a whole font is flattened, the number of the first glyph that is refused, counted from 0.
     pub glyph: Option<u32>,
     /// In flattening, how many tokens were run, the refused one among them but at [`Refusal::BudgetSpent`]; of a whole
-    /// font, those of the refused glyph. None where a list is not well formed, for then nothing was run, and with
-    /// [`Refusal::OperandsAtMask`] and [`Refusal::NoEndchar`], which come without them.
+    /// font, those of the refused glyph. None where a list is not well formed or a row too short, for then nothing was run,
+    /// and with [`Refusal::OperandsAtMask`] and [`Refusal::NoEndchar`], which come without them.
     pub tokens: Option<u32>,
     /// Where a list is not well formed for want of an entry, the number of the first that it has not.
     pub entry: Option<u32>,

@@ -8,7 +8,8 @@ pub struct Font<'a> {
     pub charstrings: List<'a>,
     pub globals: &'a [u8],
     pub advances: Option<Advances<'a>>,
-    privates: Vec<Private<'a>>,
+    /// One, or one for each Font DICT.
+    pub privates: Vec<Private<'a>>,
     /// The FDSelect of a font with several Private DICTs, and what is behind it.
     select: Option<&'a [u8]>,
 }

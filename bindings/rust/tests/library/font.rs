@@ -6,7 +6,7 @@ mod example;
 
 use crate::{alone, index};
 use example::{flatten, Advance, Counts, Report, Widths};
-use ighzamrel::{Operand, Profile, Refusal, Refused};
+use ighzamrel::{Operand, Profile, Refusal, Refused, EMPTY_INDEX};
 use std::collections::BTreeMap;
 
 /// An operator of a DICT with its operands, each in five bytes, so that its length does not depend on them.
@@ -47,14 +47,14 @@ fn private(more: &[u8], list: &[u8]) -> (Vec<u8>, usize) {
     ([&entry(&[size], &[19])[..], more, list].concat(), size)
 }
 
-/// A CFF table up to its Global Subr INDEX.
-fn head(top: &[u8]) -> Vec<u8> {
+/// A CFF table up to this Global Subr INDEX.
+fn head(top: &[u8], globals: &[u8]) -> Vec<u8> {
     [
         &[1, 0, 4, 1][..],
         &index(&[b"A"]),
         &index(&[top]),
         &index(&[]),
-        &index(&[]),
+        globals,
     ]
     .concat()
 }
@@ -65,10 +65,15 @@ fn plain_font() -> Vec<u8> {
 
 /// A font with these glyphs and this local list.
 fn font_with(glyphs: &[u8], locals: &[u8]) -> Vec<u8> {
-    file(&[(b"CFF ", &table_with(glyphs, private(&[], locals)))])
+    font_with_lists(glyphs, EMPTY_INDEX, locals)
 }
 
-fn table_with(glyphs: &[u8], (private, size): (Vec<u8>, usize)) -> Vec<u8> {
+pub fn font_with_lists(glyphs: &[u8], globals: &[u8], locals: &[u8]) -> Vec<u8> {
+    let table = table_with(glyphs, globals, private(&[], locals));
+    file(&[(b"CFF ", &table)])
+}
+
+fn table_with(glyphs: &[u8], globals: &[u8], (private, size): (Vec<u8>, usize)) -> Vec<u8> {
     let top = |glyphs, private| {
         [
             &REAL[..],
@@ -77,15 +82,15 @@ fn table_with(glyphs: &[u8], (private, size): (Vec<u8>, usize)) -> Vec<u8> {
         ]
         .concat()
     };
-    let start = head(&top(0, 0)).len();
-    let head = head(&top(start, start + glyphs.len()));
+    let start = head(&top(0, 0), globals).len();
+    let head = head(&top(start, start + glyphs.len()), globals);
     [&head, glyphs, &private].concat()
 }
 
 /// A font with these glyphs, this in its Private DICT, and these advance widths, all of them in hmtx with a side bearing.
 fn font_by_widths(glyphs: &[&[u8]], more: &[u8], advances: &[u16]) -> Vec<u8> {
     let (hhea, hmtx) = metrics(advances);
-    let cff = table_with(&index(glyphs), private(more, &index(&[])));
+    let cff = table_with(&index(glyphs), EMPTY_INDEX, private(more, &index(&[])));
     file(&[(b"CFF ", &cff), (b"hhea", &hhea), (b"hmtx", &hmtx)])
 }
 
@@ -96,7 +101,7 @@ fn metrics(advances: &[u16]) -> (Vec<u8>, Vec<u8>) {
 }
 
 /// A font with two Font DICTs: the first glyph goes by the second.
-fn cid_font(select: &[u8]) -> Vec<u8> {
+pub fn cid_font(select: &[u8]) -> Vec<u8> {
     file(&[(b"CFF ", &cid_table(select))])
 }
 
@@ -114,10 +119,10 @@ fn cid_table(select: &[u8]) -> Vec<u8> {
         let place = |at| entry(&[size, at], &[18]);
         index(&[&place(at), &place(at + first.len())])
     };
-    let at_glyphs = head(&top(0, 0, 0)).len();
+    let at_glyphs = head(&top(0, 0, 0), EMPTY_INDEX).len();
     let at_dicts = at_glyphs + glyphs.len();
     let at_select = at_dicts + dicts(0).len();
-    let head = head(&top(at_glyphs, at_dicts, at_select));
+    let head = head(&top(at_glyphs, at_dicts, at_select), EMPTY_INDEX);
     let dicts = dicts(at_select + select.len());
     [&head, &glyphs, &dicts, select, &first, &second].concat()
 }

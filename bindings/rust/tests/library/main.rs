@@ -4,11 +4,18 @@ mod flattening;
 mod font;
 mod header;
 mod indexes;
+mod marked;
 mod numbers;
+mod rerun;
 mod whole;
 mod width;
 
 use ighzamrel::{write_index, Refusal, Refused};
+
+/// The C functions as this crate calls them, whose places the crate does not show where they are left as they were.
+#[allow(dead_code)]
+#[path = "../../src/ffi.rs"]
+mod ffi;
 
 /// What lent bytes hold before a call.
 const BLANK: u8 = 0xA5;
@@ -50,8 +57,9 @@ const BAD_LISTS: [(&[u8], Refusal, Option<u32>); 8] = [
 fn index(elements: &[&[u8]]) -> Vec<u8> {
     let lengths = elements.iter().map(|element| element.len() as u32);
     let lengths: Vec<u32> = lengths.collect();
-    let mut out = vec![0; 1000];
-    let length = write_index(&lengths, &elements.concat(), &mut out).unwrap();
+    let data = elements.concat();
+    let mut out = vec![0; 7 + 4 * lengths.len() + data.len()];
+    let length = write_index(&lengths, &data, &mut out).unwrap();
     out.truncate(length);
     out
 }

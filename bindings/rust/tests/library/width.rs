@@ -1,15 +1,10 @@
 //! The width that a charstring says.
 
 use crate::flattening::{Bytes, AMPLE, AT_MASK, L, REFUSED, UNFINISHED};
-use crate::{index, BAD_LISTS};
+use crate::{ffi, index, BAD_LISTS};
 use ighzamrel::Operand::{Fixed, Integer};
 use ighzamrel::Profile::{Plain, Strict};
 use ighzamrel::*;
-
-/// The C function as this crate calls it, whose places the crate does not show where they are left as they were.
-#[allow(dead_code)]
-#[path = "../../src/ffi.rs"]
-mod ffi;
 
 const ROOM: usize = 64;
 
