@@ -7,8 +7,9 @@ use denote.Triple.Clauses.{AtExit}
 use Rattle.number.specs.AnswerLaws.{answer-as, left-as}
 use Rattle.reading.specs.Rules.{Rules, rulesOf}
 use Rattle.reading.specs.Reading.{original}
-use Rattle.reading.specs.Entered.{enteredBy, Lent, Paired, SameParts}
-use Rattle.reading.specs.MarkingLaws.{same-flattening, same-marking}
+use Rattle.reading.specs.Entered.{enteredBy, Lent}
+use Rattle.reading.specs.MarkedDemands.{Paired, SameParts}
+use Rattle.reading.specs.MarkedDemandLaws.{same-flattening, same-marking}
 use Rattle.charstring.proofs.Once.{told-once, marked-once}
 use Rattle.charstring.proofs.flattening.flatten.Kinds as kinds
 use Rattle.charstring.proofs.flattening.flatten.Reads as reads

@@ -9,8 +9,9 @@ use Rattle.number.specs.Answer.{Answer, Outcome, leaving}
 use Rattle.reading.specs.Rules.{Rules, rulesOf}
 use Rattle.reading.specs.Reading.{original}
 use Rattle.reading.specs.Answers.{Flattening}
-use Rattle.reading.specs.Entered.{enteredBy, Lent, Marked, Paired, SameParts}
-use Rattle.reading.specs.MarkingLaws.{same-flattening, same-marking}
+use Rattle.reading.specs.Entered.{enteredBy, Lent, Marked}
+use Rattle.reading.specs.MarkedDemands.{Paired, SameParts}
+use Rattle.reading.specs.MarkedDemandLaws.{same-flattening, same-marking}
 use Rattle.ighzamrel.specs.Told.{Told, told, FlatPlaces, tellFlattening, ToldMarked, tellMarked, profileOf}
 use Rattle.ighzamrel.proofs.flattening.ighzamrel_flatten.Kinds as kinds
 use Rattle.ighzamrel.proofs.flattening.ighzamrel_flatten.Reads as reads

@@ -20,6 +20,8 @@ use Rattle.reading.proofs.Stopped.number.Kinds as stop-kinds
 use Rattle.reading.proofs.Stopped.number.Reads as stop-reads
 use Rattle.reading.proofs.Flattened.number.Kinds as answer-kinds
 use Rattle.reading.proofs.Flattened.number.Reads as answer-reads
+use Rattle.reading.proofs.FlattenedMarked.number.Kinds as marked-kinds
+use Rattle.reading.proofs.FlattenedMarked.number.Reads as marked-reads
 use Rattle.reading.proofs.rules_of.Kinds as rules-kinds
 use Rattle.reading.proofs.rules_of.Reads as rules-reads
 
@@ -34,6 +36,10 @@ stop-number-once κs a r r′ x x′ p p′ = p ∙ sym p′
 pub answer-number-once : (κs : Lfts 0) (a : Dens κs answer-kinds.ps) (r r′ : resT answer-kinds.r κs .Denot)
     (x x′ : AtExit (endedOf 0 answer-kinds.ps answer-kinds.r) κs) → answer-reads.Post κs a r x → answer-reads.Post κs a r′ x′ → r ≡ r′
 answer-number-once κs a r r′ x x′ p p′ = p ∙ sym p′
+
+pub marked-number-once : (κs : Lfts 0) (a : Dens κs marked-kinds.ps) (r r′ : resT marked-kinds.r κs .Denot)
+    (x x′ : AtExit (endedOf 0 marked-kinds.ps marked-kinds.r) κs) → marked-reads.Post κs a r x → marked-reads.Post κs a r′ x′ → r ≡ r′
+marked-number-once κs a r r′ x x′ p p′ = p ∙ sym p′
 
 -- ---- from the rules back to the record that stands for them
 

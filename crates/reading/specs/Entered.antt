@@ -1,16 +1,14 @@
 -- Which entries of the two lists a run entered, by the calls that it shows, and the bit rows that say so (RULES, "Which entries a run enters").
 -- A refused call is not shown, so it enters nothing; a refused run has entered what it shows.
-use mathlib.Core.Path.{_≡_}
-use Prim.Native.Nat.{ℕ, zero, suc, _+_, _*_, _/_, _<_}
+use Prim.Native.Nat.{ℕ, zero, suc, _+_, _*_, _/_}
 use mathlib.Core.Bool.{Bool, true, false, cond, _||_, _&&_}
 use mathlib.Core.List.{List, [], _∷_, _++_}
 use lib.ListN.{length, drop}
 use lib.Dec.{eqb, leb}
 use Rattle.number.specs.Answer.{Answer, accepted, refused, alone, because}
-use Rattle.index.specs.Index.{part}
 use Rattle.index.specs.Formed.{formation}
 use Rattle.reading.specs.Rules.{Rules}
-use Rattle.reading.specs.Lists.{Lists, Entry, present, absent, listed, chosen, listsOf}
+use Rattle.reading.specs.Lists.{Lists, listed, listsOf}
 use Rattle.reading.specs.Reading.{Entering, Shown, item, call, return, Run, original}
 use Rattle.reading.specs.Answers.{Flattening, outcome, flattened}
 use Rattle.reading.specs.declared.Which.{Which}
@@ -56,7 +54,7 @@ bytesFrom among i (suc n) = bits among i 8 ∷ bytesFrom among (i + 8) n
 abbrev pub rowSize : ℕ → ℕ
 rowSize count = (count + 7) / 8
 
--- the row for `count` entries; bits past the count are clear, since no run enters an entry there (`bit-clear` of RowLaws.antt)
+-- the row for `count` entries; bits past the count are clear, since no run enters an entry there (`entered-below` of EnteredLaws.antt)
 unfoldable pub row : (ℕ → Bool) → ℕ → List ℕ
 row among count = bytesFrom among 0 (rowSize count)
 
@@ -119,36 +117,3 @@ marking rules cs globals locals budget l =
 abbrev pub flattenedMarked : FlattenedMarked → Answer Flattening
 flattenedMarked (As r) = flattened r
 flattenedMarked ShortRow = refused 43 alone
-
--- ---- lists between which a run sees no difference
-
-abbrev pub isThere : {A : Type 0} → Entry A → Bool
-isThere (present body) = true
-isThere absent = false
-
--- the counts are equal, and an entry is present in both or in neither
-pub record Shaped (a b : Lists) : Type 0 where
-  pub counts : (w : Which) → listed a w .count ≡ listed b w .count
-  pub there : (w : Which) (k : ℕ) → k < listed a w .count → isThere (listed a w .entry k) ≡ isThere (listed b w .entry k)
-
--- they agree on every entry in a set
-abbrev pub Agree : Lists → Lists → (Which → ℕ → Bool) → Type 0
-Agree a b among = (w : Which) (k : ℕ) → among w k ≡ true → listed a w .entry k ≡ listed b w .entry k
-
--- ---- the same of INDEX bytes, whose counts have w bytes
-
--- two pairs of lists, all well formed, with equal counts
-pub record Paired (w : ℕ) (globals locals globals′ locals′ : List ℕ) : Type 0 where
-  pub count : Which → ℕ
-  pub first : (v : Which) → formation w (chosen v globals locals) ≡ accepted (count v)
-  pub second : (v : Which) → formation w (chosen v globals′ locals′) ≡ accepted (count v)
-
--- they have the same bytes at every entry in a set
-abbrev pub SameParts : ℕ → List ℕ → List ℕ → List ℕ → List ℕ → (Which → ℕ → Bool) → Type 0
-SameParts w globals locals globals′ locals′ among =
-    (v : Which) (k : ℕ) → among v k ≡ true → part w (chosen v globals locals) k ≡ part w (chosen v globals′ locals′) k
-
--- and at every entry but entry k of the list v
-abbrev pub AllBut : ℕ → List ℕ → List ℕ → List ℕ → List ℕ → Which → ℕ → Type 0
-AllBut w globals locals globals′ locals′ v k =
-    (u : Which) (j : ℕ) → (u ≡ v → j ≡ k → ⊥) → part w (chosen u globals locals) j ≡ part w (chosen u globals′ locals′) j

@@ -1,38 +1,47 @@
--- A run depends on no entry that it did not enter: lists of equal counts that agree on the entries that a run entered give the same run, and so the
--- same answer, bytes and rows. Assumes nothing.
+-- A run depends on no entry that it did not enter: lists of one shape that agree on the entries that a run entered give the same run, refused or not;
+-- and what a run entered is in the lists. Assumes nothing.
 use mathlib.Core.Path.{_≡_, refl, sym, ap, subst, _∙_}
 use mathlib.Core.Bool.{Bool, true, false, cond, _||_, _&&_, true≢false}
 use mathlib.Core.List.{List, [], _∷_}
 use Prim.Native.Nat.{ℕ, zero, suc, _-_, _<_, _≤_}
 use native.Mathlib.Omega.{arith}
-use lib.Dec.{eqb, leb, ltb}
+use lib.Dec.{eqb, ltb}
 use lib.ListN.{length}
 use borrow.Author.Tests.{eq-eqb, eqb-true}
-use Rattle.number.specs.Answer.{Answer, accepted, refused, alone, Outcome, leaving}
+use Rattle.number.specs.Answer.{Answer, accepted, refused, alone}
 use Rattle.number.specs.Call.{callee}
 use Rattle.number.specs.CallLaws.{callee-below}
 use Rattle.number.specs.declared.Operand.{Operand}
-use Rattle.index.specs.Index.{part}
-use Rattle.index.specs.Formed.{formation}
 use Rattle.index.specs.IndexLaws.{or-true}
-use Rattle.index.specs.FormedLaws.{well-formed}
 use Rattle.reading.specs.Rules.{Rules}
-use Rattle.reading.specs.Lists.{Lists, Subrs, Entry, present, absent, listed, chosen, countIn, entryBy, subrsOf, listsOf}
+use Rattle.reading.specs.Lists.{Lists, Entry, present, absent, listed}
 use Rattle.reading.specs.Tokens.{number, operator, Cut, token, lacking, cut}
 use Rattle.reading.specs.Reading.{Entering, Shown, item, call, return, State, start, Ending, back, ended, stopped, Run, Step, halt, go, enter, refuse}
 use Rattle.reading.specs.Reading.{endsInOperand, struck, admitted, onEntry, onIndex, onCall, onOperator, onCut, onToken, resume, after, tokensOf}
-use Rattle.reading.specs.Reading.{entered as into, read, reading, original}
-use Rattle.reading.specs.StepLaws.{Begun, declines, goes, Goes, pushes, stems, clears, masks, enters, returns, ends, Stepped, spent, begun, token-is}
+use Rattle.reading.specs.Reading.{entered as into, read, reading}
+use Rattle.reading.specs.StepLaws.{declines, goes, pushes, stems, clears, masks, enters, returns, ends, Stepped, spent, begun, token-is}
 use Rattle.reading.specs.RunLaws.{Led, Kept, kept}
-use Rattle.reading.specs.Answers.{Flattening, outcome, listGate, flattening}
-use Rattle.reading.specs.AnswerLaws.{gate-open}
-use Rattle.reading.specs.Entered.{sameList, goesTo, entered, enteredBy, rowSize, row, rowOf, Lent, Marked, asLent, rowLeft, markedBy, ifFormed}
-use Rattle.reading.specs.Entered.{rowsFit, marking, isThere, Shaped, Agree, Paired, SameParts, AllBut}
+use Rattle.reading.specs.Entered.{sameList, goesTo, entered, enteredBy}
 use Rattle.reading.specs.declared.Operator.{Operator}
 use Rattle.reading.specs.declared.Which.{Which}
 use Rattle.reading.specs.declared.Which.the-variants.{Local, Global}
 use Rattle.reading.specs.declared.Kind.{Kind}
 use Rattle.reading.specs.declared.Kind.the-variants.{Stem, Clear, Mask, Call, Return, End, Unknown}
+
+-- ---- lists between which a run sees no difference
+
+abbrev pub isThere : {A : Type 0} → Entry A → Bool
+isThere (present body) = true
+isThere absent = false
+
+-- the counts are equal, and an entry is present in both or in neither
+pub record Shaped (a b : Lists) : Type 0 where
+  pub counts : (w : Which) → listed a w .count ≡ listed b w .count
+  pub there : (w : Which) (k : ℕ) → k < listed a w .count → isThere (listed a w .entry k) ≡ isThere (listed b w .entry k)
+
+-- they agree on every entry in a set
+abbrev pub Agree : Lists → Lists → (Which → ℕ → Bool) → Type 0
+Agree a b among = (w : Which) (k : ℕ) → among w k ≡ true → listed a w .entry k ≡ listed b w .entry k
 
 -- ---- what is shown enters its entry
 

@@ -10,6 +10,7 @@ pub mod Valid
 pub mod Masks
 pub mod Widths
 pub mod Demands
+pub mod MarkedDemands
 pub mod CutLaws
 pub mod StepLaws
 pub mod RunLaws
@@ -30,4 +31,6 @@ pub mod ListsLaws
 pub mod EnteredLaws
 pub mod MarkingLaws
 pub mod RowLaws
+pub mod MarkedDemandLaws
 pub mod Rows
+pub mod MarkedRows

@@ -1,23 +1,25 @@
--- What flattening with rows gives, of INDEX bytes: the same where the lists agree on what a run entered, whatever else they hold; and beside the rows
--- what flattening gives. Assumes nothing.
+-- What flattening with rows gives, of INDEX bytes: lists that agree on what a run entered lead to the same run; and what is known of an answer that is
+-- accepted, refused, or without its rows. Assumes nothing.
 use mathlib.Core.Path.{_≡_, refl, sym, ap, subst, _∙_}
-use mathlib.Core.Bool.{Bool, true, false, cond, _&&_, true≢false}
-use mathlib.Core.List.{List}
-use Prim.Native.Nat.{ℕ, _<_}
+use mathlib.Core.Bool.{Bool, true, false, cond, _&&_}
+use mathlib.Core.List.{List, _++_}
+use Prim.Native.Nat.{ℕ, _<_, _≤_}
 use lib.Dec.{leb}
-use lib.ListN.{length}
-use Rattle.number.specs.Answer.{Answer, accepted, refused, alone, Outcome, leaving}
+use lib.ListN.{length, drop}
+use borrow.Author.Tests.{leb-true}
+use Rattle.number.specs.Answer.{Values, Answer, accepted, refused, alone, Outcome, leaving, Ready, into}
+use Rattle.number.specs.AnswerLaws.{refused-accepted}
+use Rattle.number.specs.BigEndianLaws.{both}
 use Rattle.index.specs.Index.{part}
 use Rattle.index.specs.Formed.{formation}
 use Rattle.index.specs.FormedLaws.{well-formed}
 use Rattle.reading.specs.Rules.{Rules}
 use Rattle.reading.specs.Lists.{Lists, Subrs, present, listed, chosen, countIn, entryBy, subrsOf, listsOf}
 use Rattle.reading.specs.Reading.{Run, reading, original}
-use Rattle.reading.specs.Answers.{Flattening, outcome, listGate, flattening}
-use Rattle.reading.specs.AnswerLaws.{gate-open}
+use Rattle.reading.specs.Answers.{Flattening, judged, outcome, listGate, flattening}
 use Rattle.reading.specs.Entered.{enteredBy, rowSize, row, rowOf, Lent, Marked, asLent, rowLeft, markedBy, ifFormed, rowsFit, marking}
-use Rattle.reading.specs.Entered.{isThere, Shaped, Agree, Paired, SameParts, AllBut}
-use Rattle.reading.specs.EnteredLaws.{entered-held, same-reading}
+use Rattle.reading.specs.EnteredLaws.{isThere, Shaped, Agree, entered-held, same-reading}
+use Rattle.reading.specs.MarkedDemands.{Paired, SameParts, rowIn, withoutRows}
 use Rattle.reading.specs.declared.Which.{Which}
 use Rattle.reading.specs.declared.Which.the-variants.{Local, Global}
 
@@ -67,30 +69,31 @@ module _ (w : ℕ) (globals locals globals′ locals′ : List ℕ) (p : Paired 
             ∙ sym (ap isThere (listed-entry w globals′ locals′ v (p .count v) (p .second v) k l));
       }
 
+  -- what a run entered is below the count
+  pub entered-inside : (rules : Rules) (budget : ℕ) (cs : List ℕ) (v : Which) (k : ℕ) → enteredBy (reading rules one-pair budget cs) v k ≡ true
+      → k < p .count v
+  entered-inside rules budget cs v k e = subst (λ (n : ℕ). k < n) (counted v) (entered-held rules one-pair budget cs v k e .below)
+
   -- the same run, whatever its end
-  pub same-run : (rules : Rules) (budget : ℕ) (cs : List ℕ)
+  pub same-paired : (rules : Rules) (budget : ℕ) (cs : List ℕ)
       → SameParts w globals locals globals′ locals′ (enteredBy (reading rules one-pair budget cs))
       → reading rules other-pair budget cs ≡ reading rules one-pair budget cs
-  same-run rules budget cs f = same-reading rules one-pair other-pair paired-shaped budget cs agreed
+  same-paired rules budget cs f = same-reading rules one-pair other-pair paired-shaped budget cs agreed
     where
       agreed : Agree one-pair other-pair (enteredBy (reading rules one-pair budget cs))
       agreed v k e =
-          let l : k < p .count v = subst (λ (n : ℕ). k < n) (counted v) (entered-held rules one-pair budget cs v k e .below) in
+          let l = entered-inside rules budget cs v k e in
           listed-entry w globals locals v (p .count v) (p .first v) k l ∙ ap present (f v k e)
           ∙ sym (listed-entry w globals′ locals′ v (p .count v) (p .second v) k l)
 
--- ---- answers, bytes and rows
-
-pub formed-open : (k : ℕ) (l : Lent) (f : Answer ℕ) (n : ℕ) → f ≡ accepted n → (x : Marked) → ifFormed k l f x ≡ x
-unfolding ifFormed
-formed-open k l f n e x = rw e
+-- ---- lists of equal counts have the same rows
 
 module _ (rules : Rules) (a b : Lists) (c : (w : Which) → listed a w .count ≡ listed b w .count) (l : Lent) where
   same-row : (r : Run) (w : Which) → rowOf b r w ≡ rowOf a r w
   unfolding rowOf
   same-row r w = ap (row (enteredBy r w)) (sym (c w))
 
-  same-marked : (r : Run) → markedBy rules b l r ≡ markedBy rules a l r
+  pub same-marked : (r : Run) → markedBy rules b l r ≡ markedBy rules a l r
   unfolding markedBy
   same-marked r = ap (λ (g : List ℕ). by g (rowOf b r Local)) (same-row r Global) ∙ ap (by (rowOf a r Global)) (same-row r Local)
     where
@@ -102,78 +105,153 @@ module _ (rules : Rules) (a b : Lists) (c : (w : Which) → listed a w .count �
             left = record { room = x .left; globals = rowLeft g (l .globals) (x .answer); locals = rowLeft h (l .locals) (x .answer) };
           }
 
-  same-fit : rowsFit b l ≡ rowsFit a l
+  pub same-fit : rowsFit b l ≡ rowsFit a l
   same-fit =
       ap (λ (n : ℕ). leb (rowSize n) (length (l .globals)) && leb (rowSize (b .locals .count)) (length (l .locals))) (sym (c Global))
       ∙ ap (λ (n : ℕ). leb (rowSize (a .globals .count)) (length (l .globals)) && leb (rowSize n) (length (l .locals))) (sym (c Local))
 
-module _ (rules : Rules) (cs : List ℕ) (budget : ℕ) (globals locals globals′ locals′ : List ℕ)
-    (p : Paired (rules .width) globals locals globals′ locals′)
-    (f : SameParts (rules .width) globals locals globals′ locals′ (enteredBy (original rules cs globals locals budget))) where
-  run-is : original rules cs globals′ locals′ budget ≡ original rules cs globals locals budget
-  run-is = same-run (rules .width) globals locals globals′ locals′ p rules budget cs f
+-- ---- past the lists
 
-  -- the same answer and the same room
-  pub same-flattening : (out : List ℕ) → flattening rules cs globals′ locals′ budget out ≡ flattening rules cs globals locals budget out
-  unfolding flattening
-  same-flattening out =
-      gate-open 1 out _ _ (p .second Global) _ ∙ gate-open 2 out _ _ (p .second Local) _
-      ∙ ap (outcome rules out) run-is
-      ∙ sym (gate-open 1 out _ _ (p .first Global) _ ∙ gate-open 2 out _ _ (p .first Local) _)
+pub formed-open : (k : ℕ) (l : Lent) (f : Answer ℕ) (n : ℕ) → f ≡ accepted n → (x : Marked) → ifFormed k l f x ≡ x
+unfolding ifFormed
+formed-open k l f n e x = rw e
 
-  -- and the same rows
-  pub same-marking : (l : Lent) → marking rules cs globals′ locals′ budget l ≡ marking rules cs globals locals budget l
-  unfolding marking
-  same-marking l =
-      formed-open 1 l _ _ (p .second Global) _ ∙ formed-open 2 l _ _ (p .second Local) _
-      ∙ ap (λ (t : Bool). cond t (markedBy rules b l (original rules cs globals′ locals′ budget)) (asLent l (refused 43 alone))) (same-fit rules a b c l)
-      ∙ ap (λ (x : Marked). cond (rowsFit a l) x (asLent l (refused 43 alone)))
-      (ap (markedBy rules b l) run-is ∙ same-marked rules a b c l (original rules cs globals locals budget))
-      ∙ sym (formed-open 1 l _ _ (p .first Global) _ ∙ formed-open 2 l _ _ (p .first Local) _)
-    where
-      a : Lists
-      a = listsOf (rules .width) globals locals
+-- what is accepted is past a list that is well formed
+formed-past : (k : ℕ) (l : Lent) (f : Answer ℕ) (y : Marked) (x : Flattening) → ifFormed k l f y .answer ≡ accepted x
+    → (n : ℕ) × (f ≡ accepted n)
+unfolding ifFormed
+formed-past k l (accepted n) y x e = (n, refl)
+formed-past k l (refused j v) y x e = refused-accepted e
 
-      b : Lists
-      b = listsOf (rules .width) globals′ locals′
-
-      c : (w : Which) → listed a w .count ≡ listed b w .count
-      c = paired-shaped (rules .width) globals locals globals′ locals′ p .counts
-
--- ---- an entry that was not entered may be changed at will
-
-module _ (rules : Rules) (cs : List ℕ) (budget : ℕ) (globals locals globals′ locals′ : List ℕ)
-    (p : Paired (rules .width) globals locals globals′ locals′) (v : Which) (k : ℕ)
-    (n : enteredBy (original rules cs globals locals budget) v k ≡ false) (f : AllBut (rules .width) globals locals globals′ locals′ v k) where
-  pub but-one : SameParts (rules .width) globals locals globals′ locals′ (enteredBy (original rules cs globals locals budget))
-  but-one u j e =
-      let among = enteredBy (original rules cs globals locals budget) in
-      f u j (λ a b. true≢false (sym e ∙ ap (λ (x : Which). among x j) a ∙ ap (among v) b ∙ n))
-
-  pub edit-flattening : (out : List ℕ) → flattening rules cs globals′ locals′ budget out ≡ flattening rules cs globals locals budget out
-  edit-flattening = same-flattening rules cs budget globals locals globals′ locals′ p but-one
-
-  pub edit-marking : (l : Lent) → marking rules cs globals′ locals′ budget l ≡ marking rules cs globals locals budget l
-  edit-marking = same-marking rules cs budget globals locals globals′ locals′ p but-one
-
--- ---- rows that are long enough change no answer and no byte of the room
-
-abbrev pub withoutRows : Marked → Outcome (Answer Flattening)
-withoutRows x = leaving (x .answer) (x .left .room)
-
--- a list that is not well formed is told alike
-pub shut-alike : (k : ℕ) (l : Lent) (f : Answer ℕ) (x : Marked) (y : Outcome (Answer Flattening)) → withoutRows x ≡ y
+-- a list that is not well formed is told alike with rows and without
+shut-alike : (k : ℕ) (l : Lent) (f : Answer ℕ) (x : Marked) (y : Outcome (Answer Flattening)) → withoutRows x ≡ y
     → withoutRows (ifFormed k l f x) ≡ listGate k (l .room) f y
 unfolding ifFormed listGate
 shut-alike k l (accepted n) x y e = e
 shut-alike k l (refused j v) x y e = refl
 
-pub rows-beside : (rules : Rules) (cs globals locals : List ℕ) (budget : ℕ) (l : Lent) → rowsFit (listsOf (rules .width) globals locals) l ≡ true
-    → withoutRows (marking rules cs globals locals budget l) ≡ flattening rules cs globals locals budget (l .room)
-unfolding marking flattening markedBy
-rows-beside rules cs globals locals budget l h =
-    let lists = listsOf (rules .width) globals locals in
-    let r = original rules cs globals locals budget in
-    shut-alike 1 l (formation (rules .width) globals) _ _
-    (shut-alike 2 l (formation (rules .width) locals) _ _
-    (ap (λ (t : Bool). withoutRows (cond t (markedBy rules lists l r) (asLent l (refused 43 alone)))) h))
+-- where a refusal leaves all as lent, it does so behind a list too
+abbrev AsLent : Lent → Marked → Type 0
+AsLent l x = (k : ℕ) (v : Values) → x .answer ≡ refused k v → x .left ≡ l
+
+formed-lent : (k : ℕ) (l : Lent) (f : Answer ℕ) (x : Marked) → AsLent l x → AsLent l (ifFormed k l f x)
+unfolding ifFormed
+formed-lent k l (accepted n) x h = h
+formed-lent k l (refused j u) x h = λ n v e. refl
+
+-- ---- the room and the rows
+
+into-as-lent : (out : List ℕ) (x : Answer (Ready Flattening)) (k : ℕ) (v : Values) → into out x .answer ≡ refused k v → into out x .left ≡ out
+unfolding into
+into-as-lent out (refused n u) k v e = refl
+into-as-lent out (accepted r) k v e = by-room (leb (length (r .bytes)) (length out)) e
+  where
+    placed : Bool → Outcome (Answer Flattening)
+    placed t = cond t (leaving (accepted (r .told)) (r .bytes ++ drop (length (r .bytes)) out)) (leaving (refused 13 (r .short)) out)
+
+    by-room : (t : Bool) → placed t .answer ≡ refused k v → placed t .left ≡ out
+    by-room true q = refused-accepted (sym q)
+    by-room false q = refl
+
+row-as-lent : (made lent : List ℕ) (x : Answer Flattening) (k : ℕ) (v : Values) → x ≡ refused k v → rowLeft made lent x ≡ lent
+unfolding rowLeft
+row-as-lent made lent x k v e = rw e
+
+row-made : (made lent : List ℕ) (x : Answer Flattening) (y : Flattening) → x ≡ accepted y → rowLeft made lent x ≡ made ++ drop (length made) lent
+unfolding rowLeft
+row-made made lent x y e = rw e
+
+module _ (rules : Rules) (lists : Lists) (l : Lent) (r : Run) where
+  marked-lent : AsLent l (markedBy rules lists l r)
+  unfolding markedBy outcome
+  marked-lent k v e =
+      let room = into-as-lent (l .room) (judged rules r) k v e in
+      let globals = row-as-lent (rowOf lists r Global) (l .globals) _ k v e in
+      let locals = row-as-lent (rowOf lists r Local) (l .locals) _ k v e in
+      rw (room, globals, locals)
+
+  marked-row : (x : Flattening) → markedBy rules lists l r .answer ≡ accepted x → (v : Which)
+      → rowIn v (markedBy rules lists l r .left) ≡ rowOf lists r v ++ drop (length (rowOf lists r v)) (rowIn v l)
+  unfolding markedBy
+  marked-row x e Local = row-made (rowOf lists r Local) (l .locals) _ x e
+  marked-row x e Global = row-made (rowOf lists r Global) (l .globals) _ x e
+
+row-fits : (lists : Lists) (l : Lent) → rowsFit lists l ≡ true → (v : Which) → rowSize (listed lists v .count) ≤ length (rowIn v l)
+row-fits lists l e v = by-list v
+  where
+    fits : (w : Which) → Bool
+    fits w = leb (rowSize (listed lists w .count)) (length (rowIn w l))
+
+    by-list : (w : Which) → rowSize (listed lists w .count) ≤ length (rowIn w l)
+    by-list Local = leb-true _ _ (both (fits Global) (fits Local) e .1)
+    by-list Global = leb-true _ _ (both (fits Global) (fits Local) e .0)
+
+-- ---- the whole
+
+module _ (rules : Rules) (cs globals locals : List ℕ) (budget : ℕ) (l : Lent) where
+  abbrev lists : Lists
+  lists = listsOf (rules .width) globals locals
+
+  abbrev run : Run
+  run = original rules cs globals locals budget
+
+  -- by whether the rows are long enough
+  abbrev pub by-rows : Bool → Marked
+  by-rows t = cond t (markedBy rules lists l run) (asLent l (refused 43 alone))
+
+  -- past both lists
+  pub marking-open : (n m : ℕ) → formation (rules .width) globals ≡ accepted n → formation (rules .width) locals ≡ accepted m
+      → marking rules cs globals locals budget l ≡ by-rows (rowsFit lists l)
+  unfolding marking
+  marking-open n m g h = formed-open 1 l _ n g _ ∙ formed-open 2 l _ m h _
+
+  pub marking-lent : AsLent l (marking rules cs globals locals budget l)
+  unfolding marking
+  marking-lent = formed-lent 1 l _ _ (formed-lent 2 l _ _ (by-fit (rowsFit lists l)))
+    where
+      by-fit : (t : Bool) → AsLent l (by-rows t)
+      by-fit true = marked-lent rules lists l run
+      by-fit false = λ k v e. refl
+
+  pub rows-beside : rowsFit lists l ≡ true → withoutRows (marking rules cs globals locals budget l) ≡ flattening rules cs globals locals budget (l .room)
+  unfolding marking flattening markedBy
+  rows-beside h =
+      shut-alike 1 l (formation (rules .width) globals) _ _
+      (shut-alike 2 l (formation (rules .width) locals) _ _ (ap (λ (t : Bool). withoutRows (by-rows t)) h))
+
+  module _ (x : Flattening) (a : marking rules cs globals locals budget l .answer ≡ accepted x) where
+    globals-formed : (n : ℕ) × (formation (rules .width) globals ≡ accepted n)
+    unfolding marking
+    globals-formed = formed-past 1 l _ _ x a
+
+    locals-formed : (n : ℕ) × (formation (rules .width) locals ≡ accepted n)
+    unfolding marking
+    locals-formed =
+        formed-past 2 l _ _ x (ap (λ (y : Marked). y .answer) (sym (formed-open 1 l _ (globals-formed .0) (globals-formed .1) _)) ∙ a)
+
+    pub both-formed : (v : Which) → (n : ℕ) × (formation (rules .width) (chosen v globals locals) ≡ accepted n)
+    both-formed Local = locals-formed
+    both-formed Global = globals-formed
+
+    opened : marking rules cs globals locals budget l ≡ by-rows (rowsFit lists l)
+    opened = marking-open (globals-formed .0) (locals-formed .0) (globals-formed .1) (locals-formed .1)
+
+    fit : rowsFit lists l ≡ true
+    fit = by-fit (rowsFit lists l) (ap (λ (y : Marked). y .answer) (sym opened) ∙ a)
+      where
+        by-fit : (t : Bool) → by-rows t .answer ≡ accepted x → t ≡ true
+        by-fit true e = refl
+        by-fit false e = refused-accepted e
+
+    is-marked : marking rules cs globals locals budget l ≡ markedBy rules lists l run
+    is-marked = opened ∙ ap by-rows fit
+
+    -- each row lent is long enough, and begins with the one made
+    pub lent-fits : (v : Which) → rowSize (listed lists v .count) ≤ length (rowIn v l)
+    lent-fits = row-fits lists l fit
+
+    pub row-left : (v : Which)
+        → rowIn v (marking rules cs globals locals budget l .left) ≡ rowOf lists run v ++ drop (length (rowOf lists run v)) (rowIn v l)
+    row-left v =
+        ap (λ (y : Marked). rowIn v (y .left)) is-marked
+        ∙ marked-row rules lists l run x (ap (λ (y : Marked). y .answer) (sym is-marked) ∙ a) v

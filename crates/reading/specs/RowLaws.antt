@@ -1,18 +1,16 @@
--- The bits of a row: bit i mod 8, from the low end, of byte i / 8 is entry i's, and bits past the count are clear. Assumes nothing.
+-- The bits of a row: bit i mod 8, from the low end, of byte i / 8 is entry i's; how rows are cut; and what a row that is left reports. Assumes nothing.
 use mathlib.Core.Path.{_≡_, refl, sym, ap, subst, _∙_}
 use mathlib.Core.Bool.{Bool, true, false, cond}
-use mathlib.Core.List.{List, [], _∷_}
-use Prim.Native.Nat.{ℕ, zero, suc, _+_, _*_, _/_, _%_, _^_, _<_, _≤_}
+use mathlib.Core.List.{List, _∷_, _++_}
+use Prim.Native.Nat.{ℕ, zero, suc, _+_, _-_, _*_, _/_, _%_, _^_, _<_, _≤_}
 use native.Mathlib.Nat.{add-zero, zero-add, suc-add, pow-succ', div-div-eq-div-mul}
 use native.Mathlib.Omega.{arith}
-use lib.Dec.{lit<}
-use lib.ListN.{length, getD, take, drop}
-use Rattle.reading.specs.Rules.{Rules}
-use Rattle.reading.specs.Lists.{Lists, listed}
-use Rattle.reading.specs.Reading.{reading}
-use Rattle.reading.specs.Entered.{enteredBy, bits, bytesFrom, rowSize, row, rowOf}
-use Rattle.reading.specs.EnteredLaws.{entered-below}
-use Rattle.reading.specs.declared.Which.{Which}
+use lib.Dec.{lit<, ltb}
+use lib.ListN.{length, getD, take, drop, length-append, length-drop, List·getD-append}
+use lib.Seq.{drop-append-add, getD-drop, ext-getD}
+use borrow.Author.Tests.{ltb-true, ltb-false}
+use Rattle.reading.specs.Entered.{bits, bytesFrom, rowSize, row}
+use Rattle.reading.specs.MarkedDemands.{bitAt, Reported}
 
 -- ---- sets that agree where a row looks give the same row
 
@@ -126,13 +124,88 @@ module _ (among : ℕ → Bool) where
   unfolding row
   row-byte count j h = subst (λ (x : ℕ). x < 256) (sym (byte-at (rowSize count) 0 j h)) (bits-small 8 (0 + 8 * j))
 
--- every entry below the count has a bit, and all other bits of the row are clear
+-- every entry below the count has a bit
 pub bit-inside : (count i : ℕ) → i < count → i / 8 < rowSize count
 bit-inside count i h = omega arith
 
-pub bit-clear : (rules : Rules) (lists : Lists) (budget : ℕ) (cs : List ℕ) (w : Which) (i : ℕ) → listed lists w .count ≤ i
-    → i / 8 < rowSize (listed lists w .count) → getD (rowOf lists (reading rules lists budget cs) w) (i / 8) 0 / 2 ^ (i % 8) % 2 ≡ 0
-unfolding rowOf
-bit-clear rules lists budget cs w i h inside =
-    row-bit (enteredBy (reading rules lists budget cs) w) (listed lists w .count) i inside
-    ∙ ap (λ (t : Bool). cond t 1 0) (entered-below rules lists budget cs w i h)
+-- ---- what is left of a row as lent
+
+-- a row made for the entries of a set, none of which is past the count, over the start of a row as lent
+module _ (among : ℕ → Bool) (count : ℕ) (inside : (i : ℕ) → count ≤ i → among i ≡ false)
+    (lent : List ℕ) (fits : rowSize count ≤ length lent) where
+  abbrev made : List ℕ
+  made = row among count ++ drop (length (row among count)) lent
+
+  sized : length (row among count) ≡ rowSize count
+  sized = row-length among count
+
+  byte-in : (j : ℕ) → j < rowSize count → getD made j 0 ≡ getD (row among count) j 0
+  byte-in j h = List·getD-append (row among count) _ 0 j (let e = sized in omega arith)
+
+  bit-in : (i : ℕ) → i / 8 < rowSize count → bitAt made i ≡ cond (among i) 1 0
+  bit-in i h = ap (λ (x : ℕ). x / 2 ^ (i % 8) % 2) (byte-in (i / 8) h) ∙ row-bit among count i h
+
+  pub made-reports : Reported among count lent made
+  made-reports =
+      record {
+        bit = λ i h. bit-in i (bit-inside count i h);
+        clear = λ i h b. bit-in i b ∙ ap (λ (t : Bool). cond t 1 0) (inside i h);
+        byte = λ j h. rw (byte-in j h) (row-byte among count j h);
+        tail = tail-is;
+        size = size-is;
+      }
+    where
+      tail-is : drop (rowSize count) made ≡ drop (rowSize count) lent
+      tail-is = rw (← sized) (ap (λ (n : ℕ). drop n made) (sym (add-zero (length (row among count))))
+          ∙ drop-append-add (row among count) (drop (length (row among count)) lent) 0)
+
+      size-is : length made ≡ length lent
+      size-is =
+          let e = length-append (row among count) (drop (length (row among count)) lent) in
+          let d = length-drop (length (row among count)) lent in
+          let s = sized in
+          omega arith
+
+-- numbers of n bits are fixed by them
+bits-fix : (n x y : ℕ) → x < 2 ^ n → y < 2 ^ n → ((b : ℕ) → b < n → x / 2 ^ b % 2 ≡ y / 2 ^ b % 2) → x ≡ y
+bits-fix zero x y h k e = let a : x < 1 = h in let b : y < 1 = k in omega arith
+bits-fix (suc n) x y h k e =
+    let a : x < 2 * 2 ^ n = subst (λ (m : ℕ). x < m) (pow-succ' 2 n) h in
+    let b : y < 2 * 2 ^ n = subst (λ (m : ℕ). y < m) (pow-succ' 2 n) k in
+    let low : x / 1 % 2 ≡ y / 1 % 2 = e 0 (omega arith) in
+    let high : x / 2 ≡ y / 2 = bits-fix n (x / 2) (y / 2) (omega arith) (omega arith) (λ c d. bit-up x c ∙ e (suc c) (omega arith) ∙ sym (bit-up y c)) in
+    omega arith
+  where
+    bit-up : (z c : ℕ) → z / 2 / 2 ^ c % 2 ≡ z / 2 ^ suc c % 2
+    bit-up z c = ap (λ (m : ℕ). m % 2) (div-div-eq-div-mul z 2 (2 ^ c)) ∙ ap (λ (m : ℕ). z / m % 2) (sym (pow-succ' 2 c))
+
+-- what is reported fixes the row
+pub reported-once : (among : ℕ → Bool) (count : ℕ) (lent left left′ : List ℕ) → Reported among count lent left → Reported among count lent left′
+    → left ≡ left′
+reported-once among count lent left left′ p q = ext-getD 0 left left′ (p .size ∙ sym (q .size)) (λ j h. by-place j (ltb j n) refl)
+  where
+    n : ℕ
+    n = rowSize count
+
+    same-bit : (i : ℕ) → i / 8 < n → (t : Bool) → ltb i count ≡ t → bitAt left i ≡ bitAt left′ i
+    same-bit i h true e = p .bit i (ltb-true i count e) ∙ sym (q .bit i (ltb-true i count e))
+    same-bit i h false e = p .clear i (ltb-false i count e) h ∙ sym (q .clear i (ltb-false i count e) h)
+
+    bit-of : (s : List ℕ) (j b : ℕ) → b < 8 → getD s j 0 / 2 ^ b % 2 ≡ bitAt s (8 * j + b)
+    bit-of s j b h =
+        let place : j ≡ (8 * j + b) / 8 = omega arith in
+        let low : b ≡ (8 * j + b) % 8 = omega arith in
+        ap (λ (k : ℕ). getD s k 0 / 2 ^ b % 2) place ∙ ap (λ (k : ℕ). getD s ((8 * j + b) / 8) 0 / 2 ^ k % 2) low
+
+    behind : (s : List ℕ) (j : ℕ) → n ≤ j → getD (drop n s) (j - n) 0 ≡ getD s j 0
+    behind s j h = let place : n + (j - n) ≡ j = omega arith in getD-drop n s (j - n) 0 ∙ ap (λ (k : ℕ). getD s k 0) place
+
+    by-place : (j : ℕ) (t : Bool) → ltb j n ≡ t → getD left j 0 ≡ getD left′ j 0
+    by-place j true e =
+        let l = ltb-true j n e in
+        bits-fix 8 _ _ (p .byte j l) (q .byte j l)
+        (λ b h. let inside : (8 * j + b) / 8 < n = omega arith in
+        bit-of left j b h ∙ same-bit (8 * j + b) inside (ltb (8 * j + b) count) refl ∙ sym (bit-of left′ j b h))
+    by-place j false e =
+        let l = ltb-false j n e in
+        sym (behind left j l) ∙ ap (λ (s : List ℕ). getD s (j - n) 0) (p .tail ∙ sym (q .tail)) ∙ behind left′ j l

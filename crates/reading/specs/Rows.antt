@@ -60,11 +60,11 @@ All (r ∷ rs) = Holds r × All rs
 
 -- ---- the rows
 
-abbrev none : List ℕ
+abbrev pub none : List ℕ
 none = 0x00 ∷ 0x00 ∷ []
 
 -- the list L of RULES, "Examples"
-abbrev L : List ℕ
+abbrev pub L : List ℕ
 L = 0x00 ∷ 0x01 ∷ 0x01 ∷ 0x01 ∷ 0x05 ∷ 0x8C ∷ 0x8D ∷ 0x15 ∷ 0x0B ∷ []
 
 -- a list of one entry, which calls itself
@@ -153,11 +153,11 @@ more =
     ∷ []
 
 -- plain, without a level below the charstring
-abbrev shallow : Rules
+abbrev pub shallow : Rules
 shallow = record { operands = 48; levels = 0; hints = 65535; exact = false; clean = false; finished = false; width = 2; kind = type2; takes = type2Takes }
 
 -- an operand in front of a mask whose length is fixed, and a call behind it: the index does not stand last
-abbrev behindMask : List ℕ → List ℕ
+abbrev pub behindMask : List ℕ → List ℕ
 behindMask index = 0x8B ∷ 0x8C ∷ 0x01 ∷ 0x13 ∷ 0x80 ∷ (index ++ (0x13 ∷ 0x80 ∷ 0x0A ∷ []))
 
 abbrev fullStem : List ℕ
@@ -220,7 +220,7 @@ masksInStrict =
 -- ---- the end in strict
 
 -- a list of one entry
-abbrev only : List ℕ → List ℕ
+abbrev pub only : List ℕ → List ℕ
 only body = 0x00 ∷ 0x01 ∷ 0x01 ∷ 0x01 ∷ (length body + 1) ∷ body
 
 abbrev pub endsInStrict : List Row
