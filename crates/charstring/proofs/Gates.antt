@@ -4,25 +4,22 @@ use mathlib.Core.List.{List, [], _∷_}
 use Prim.Native.Nat.{ℕ}
 use types.Run.{OneOf, miss}
 use denote.Enum.Declared.{tagOf}
-use Rattle.number.specs.Answer.{Values, Answer, accepted, refused}
+use Rattle.number.specs.Answer.{Values, Answer, accepted, refused, because}
 use Rattle.index.specs.Formed.{formation, reasonOf, reasonAt, formed}
 use Rattle.index.specs.declared.list.Formed.{Formed}
 use Rattle.index.specs.declared.list.Formed.the-variants.{Yes, No}
 use Rattle.index.specs.declared.list.Flaw.{Flaw}
 use Rattle.index.proofs.list.Formed as formed-type
 use Rattle.reading.specs.Rules.{Rules}
-use Rattle.reading.specs.Answers.{flattened}
+use Rattle.reading.specs.Answers.{Flattening, listGate, flattened}
+use Rattle.reading.specs.AnswerLaws.{gate-open, gate-shut}
 use Rattle.reading.specs.declared.Flattened.{Flattened}
 use Rattle.reading.specs.declared.Flattened.the-variants.{Accepted, BadGlobals, BadLocals, Refused, NoRoom}
 use Rattle.reading.proofs.Flattened as flattened-type
 
 -- ---- a list
 
--- one that is not well formed, by its flaw
-pub flawed : (x : Answer ℕ) (r : Formed) (f : Flaw) → r ≡ No f → formed r ≡ x → x ≡ refused (reasonOf f) (reasonAt f)
-flawed x r f e h = sym h ∙ ap formed e
-
--- one that is
+-- one that is well formed
 pub record WellFormed (x : Answer ℕ) : Type 0 where
   pub count : ℕ
   pub is : x ≡ accepted count
@@ -30,6 +27,14 @@ pub record WellFormed (x : Answer ℕ) : Type 0 where
 pub unflawed : (x : Answer ℕ) (r : Formed) → OneOf (0 ∷ []) (tagOf formed-type.the-type r) → formed r ≡ x → WellFormed x
 unflawed x (Yes n) h e = record { count = n; is = sym e }
 unflawed x (No f) h e = absurd (miss (0 ∷ []) 1 tt h)
+
+-- at the gate of each
+module _ {A : Type 0} (left : Answer Flattening → A) (k : ℕ) (x : Answer ℕ) (then : A) (r : Formed) where
+  pub shut : (f : Flaw) → r ≡ No f → formed r ≡ x → left (refused k (because (reasonOf f) (reasonAt f))) ≡ listGate left k x then
+  shut f e h = sym (gate-shut left k x (reasonOf f) (reasonAt f) (sym h ∙ ap formed e) then)
+
+  pub opened : OneOf (0 ∷ []) (tagOf formed-type.the-type r) → formed r ≡ x → then ≡ listGate left k x then
+  opened h e = let w = unflawed x r h e in sym (gate-open left k x (w .count) (w .is) then)
 
 -- at the width that the rules have
 pub formed-by : (list : List ℕ) (x y : Rules) (r : Formed) → x ≡ y → formed r ≡ formation (x .width) list → formed r ≡ formation (y .width) list

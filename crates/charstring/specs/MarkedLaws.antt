@@ -8,7 +8,7 @@ use lib.Dec.{leb}
 use lib.ListN.{length, take, drop, length-drop}
 use lib.Seq.{take-all}
 use borrow.Author.Tests.{le-leb, lt-leb}
-use Rattle.number.specs.Answer.{Values, Answer, accepted, refused, alone, because, Outcome, leaving}
+use Rattle.number.specs.Answer.{Values, Answer, accepted, refused, alone, Outcome, leaving}
 use Rattle.index.specs.Index.{extent}
 use Rattle.index.specs.Formed.{formation}
 use Rattle.reading.specs.Rules.{Rules}
@@ -16,9 +16,9 @@ use Rattle.reading.specs.Tokens.{Bytes}
 use Rattle.reading.specs.Lists.{Lists, listed, chosen, countIn, subrsOf, listsOf}
 use Rattle.reading.specs.Reading.{Run, original}
 use Rattle.reading.specs.Answers.{Flattening, outcome}
-use Rattle.reading.specs.Entered.{enteredBy, rowSize, row, rowOf, Lent, Marked, asLent, rowLeft, markedBy, rowsFit, ifFormed, marking}
+use Rattle.reading.specs.Entered.{enteredBy, rowSize, row, rowOf, Lent, Marked, asLent, rowLeft, markedBy, rowsFit, marking}
 use Rattle.reading.specs.ListsLaws.{few-entries}
-use Rattle.reading.specs.MarkingLaws.{listed-count, formed-open}
+use Rattle.reading.specs.MarkingLaws.{listed-count, marking-open}
 use Rattle.reading.specs.RowLaws.{row-length}
 use Rattle.reading.specs.declared.Which.{Which}
 use Rattle.reading.specs.declared.Which.the-variants.{Local, Global}
@@ -52,19 +52,12 @@ module _ (lists : Lists) (l : Lent) (then : Marked) where
 
 -- ---- behind the lists
 
--- a list that is not well formed
-pub shut-list : (k : ℕ) (l : Lent) (x : Answer ℕ) (j : ℕ) (v : Values) (then : Marked) → x ≡ refused j v
-    → asLent l (refused k (because j v)) ≡ ifFormed k l x then
-unfolding ifFormed
-shut-list k l x j v then e = ap (λ (y : Answer ℕ). ifFormed k l y then) (sym e)
-
 module _ (rules : Rules) (cs globals locals : List ℕ) (budget : ℕ) (l : Lent) (n m : ℕ)
     (g : formation (rules .width) globals ≡ accepted n) (h : formation (rules .width) locals ≡ accepted m) where
   pub past-lists : (x : Marked) → x ≡ Judged (listsOf (rules .width) globals locals) l
       (markedBy rules (listsOf (rules .width) globals locals) l (original rules cs globals locals budget))
       → x ≡ marking rules cs globals locals budget l
-  unfolding marking
-  past-lists x e = e ∙ sym (formed-open 1 l _ n g _ ∙ formed-open 2 l _ m h _)
+  past-lists x e = e ∙ sym (marking-open rules cs globals locals budget l n m g h)
 
   -- there is room for the marks of both in so many bytes
   pub few-marks : (w : rules .width ≡ 2) → Bytes globals → Bytes locals

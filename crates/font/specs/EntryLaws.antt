@@ -19,7 +19,7 @@ use Rattle.index_writing.specs.Code.{Writable}
 use Rattle.index_writing.specs.RoundTripLaws.{read-written, part-written, formed-written}
 use Rattle.reading.specs.Rules.{Rules}
 use Rattle.reading.specs.Reading.{Run, original}
-use Rattle.reading.specs.Answers.{Flattening, flatOf, flatReady, judged, outcome, flattening}
+use Rattle.reading.specs.Answers.{Flattening, flatOf, flatReady, judged, outcome, roomAsLent, flattening}
 use Rattle.reading.specs.AnswerLaws.{AcceptedBy, Judged, takes, turns-down, judged-so, judged-accepted, gate-open}
 use Rattle.font.specs.Font.{bytesIn, flatIn, decided, allFrom, lengthsOf, joinedOf}
 use Rattle.font.specs.Demands.{Alone, IsFormed}
@@ -157,7 +157,8 @@ module _ (rules : Rules) (globals locals : List ℕ) (g : IsFormed rules globals
   run-decides : (room : List ℕ) → flattening rules cs globals locals budget room ≡ outcome rules room run
   unfolding flattening
   run-decides room =
-      gate-open 1 room (formation (rules .width) globals) (g .0) (g .1) _ ∙ gate-open 2 room (formation (rules .width) locals) (l .0) (l .1) _
+      gate-open (roomAsLent room) 1 (formation (rules .width) globals) (g .0) (g .1) _
+      ∙ gate-open (roomAsLent room) 2 (formation (rules .width) locals) (l .0) (l .1) _
 
   pub alone-gives : (f : List ℕ) → flatIn rules run ≡ accepted f → Alone rules cs globals locals budget f
   alone-gives f e = record { x = flatReady run .told; gives = λ room h. run-decides room ∙ gave-outcome rules run f (gave rules run f e) room h }

@@ -1,5 +1,5 @@
 -- No refusal of a flattening, of one glyph or of a font, has the number 0: an answer of 0 says that it was accepted. Assumes nothing.
-use mathlib.Core.Path.{_≡_, refl, ap, sym, _∙_}
+use mathlib.Core.Path.{_≡_, refl, ap, sym, subst, _∙_}
 use mathlib.Core.Bool.{Bool, true, false, cond}
 use mathlib.Core.List.{List, _++_}
 use Prim.Native.Nat.{ℕ, _<_}
@@ -7,11 +7,13 @@ use native.Mathlib.Omega.{arith}
 use lib.Dec.{leb, lit<}
 use lib.IntN.{ℤ}
 use lib.ListN.{length, drop}
-use Rattle.number.specs.Answer.{Values, Answer, accepted, refused, Outcome, leaving, Ready, into}
+use Rattle.number.specs.Answer.{Values, Answer, accepted, refused, alone, because, Outcome, leaving, Ready, into}
 use Rattle.reading.specs.Rules.{Rules}
+use Rattle.reading.specs.Lists.{listsOf}
 use Rattle.reading.specs.Reading.{original}
 use Rattle.reading.specs.StopLaws.{judged-refused, refusal-within}
-use Rattle.reading.specs.Answers.{Flattening, judged, outcome, listGate, flattening}
+use Rattle.reading.specs.Answers.{Flattening, judged, outcome, listGate, roomAsLent, flattening}
+use Rattle.reading.specs.Entered.{Lent, Marked, asLent, rowsFit, markedBy, marking}
 use Rattle.reading.specs.Tokens.{Bytes}
 use Rattle.font.specs.Font.{flattenFont}
 use Rattle.font.specs.Demands.{Why, bad-globals, bad-locals, bad-charstrings, bad-glyph, too-long, no-room}
@@ -47,17 +49,26 @@ numbered-into {A} out (accepted r) h =
     (leaving (accepted (r .told)) (r .bytes ++ drop (length (r .bytes)) out)) (leaving (refused 13 (r .short)) out) tt (lit< tt)
 numbered-into out (refused n v) h = h
 
-numbered-gate : (k : ℕ) (out : List ℕ) (f : Answer ℕ) (then : Outcome (Answer Flattening)) → 0 < k → Numbered (then .answer)
-    → Numbered (listGate k out f then .answer)
+numbered-gate : {A : Type 0} (left : Answer Flattening → A) (answer : A → Answer Flattening) → ((k : ℕ) (v : Values) → answer (left (refused k v)) ≡ refused k v)
+    → (k : ℕ) (f : Answer ℕ) (then : A) → 0 < k → Numbered (answer then) → Numbered (answer (listGate left k f then))
 unfolding listGate
-numbered-gate k out (accepted n) then p h = h
-numbered-gate k out (refused j v) then p h = p
+numbered-gate left answer is k (accepted n) then p h = h
+numbered-gate left answer is k (refused j v) then p h = subst Numbered (sym (is k (because j v))) p
 
 pub numbered-flattening : (rules : Rules) (cs globals locals : List ℕ) (budget : ℕ) (out : List ℕ)
     → Numbered (flattening rules cs globals locals budget out .answer)
 unfolding flattening outcome
 numbered-flattening rules cs globals locals budget out =
-    numbered-gate 1 out _ _ (lit< tt) (numbered-gate 2 out _ _ (lit< tt) (numbered-into out _ (numbered-judged rules cs globals locals budget)))
+    numbered-gate (roomAsLent out) (λ o. o .answer) (λ k v. refl) 1 _ _ (lit< tt)
+    (numbered-gate (roomAsLent out) (λ o. o .answer) (λ k v. refl) 2 _ _ (lit< tt) (numbered-into out _ (numbered-judged rules cs globals locals budget)))
+
+-- with rows
+pub numbered-marking : (rules : Rules) (cs globals locals : List ℕ) (budget : ℕ) (l : Lent) → Numbered (marking rules cs globals locals budget l .answer)
+unfolding marking markedBy outcome
+numbered-marking rules cs globals locals budget l =
+    numbered-gate (asLent l) (λ m. m .answer) (λ k v. refl) 1 _ _ (lit< tt) (numbered-gate (asLent l) (λ m. m .answer) (λ k v. refl) 2 _ _ (lit< tt)
+    (either (λ (m : Marked). Numbered (m .answer)) (rowsFit (listsOf (rules .width) globals locals) l) _ (asLent l (refused 43 alone))
+    (numbered-into (l .room) _ (numbered-judged rules cs globals locals budget)) (lit< tt)))
 
 -- what is given at the places
 abbrev pub flatTold : FlatPlaces → Flattening

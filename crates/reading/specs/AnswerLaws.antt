@@ -5,13 +5,13 @@ use mathlib.Core.List.{List, _++_}
 use Prim.Native.Nat.{ℕ, _<_, _≤_}
 use native.Mathlib.Omega.{arith}
 use lib.ListN.{length, drop}
-use Rattle.number.specs.Answer.{Values, Answer, accepted, refused, atToken, Outcome, leaving, Ready, into}
+use Rattle.number.specs.Answer.{Values, Answer, accepted, refused, atToken, Outcome, leaving, Ready, into, because}
 use Rattle.number.specs.AnswerLaws.{refused-accepted, accepted-same, answer-as, Placed, into-accepted, into-other}
 use Rattle.index.specs.Formed.{formation}
 use Rattle.reading.specs.Rules.{Rules}
 use Rattle.reading.specs.Lists.{listsOf}
 use Rattle.reading.specs.Reading.{Ending, back, ended, stopped, Accepted, Run, tokensBy, tokens, reading, original}
-use Rattle.reading.specs.Answers.{Flattening, flatOf, flatReady, comesWith, readyBy, judged, outcome, listGate, flattening}
+use Rattle.reading.specs.Answers.{Flattening, flatOf, flatReady, comesWith, readyBy, judged, outcome, listGate, roomAsLent, flattening}
 use Rattle.reading.specs.BudgetLaws.{count, tokens-budget, budget-enough, budget-short}
 use Rattle.reading.specs.TighterLaws.{Tighter, tighter-reading}
 
@@ -82,19 +82,22 @@ module _ (rules : Rules) where
 
 -- ---- an accepted flattening
 
--- past a list that is well formed, whatever comes then
-module _ (k : ℕ) (out : List ℕ) (y : Outcome (Answer Flattening)) (x : Flattening) where
-  gate-alike : (f : Answer ℕ) → listGate k out f y .answer ≡ accepted x → (z : Outcome (Answer Flattening)) → listGate k out f z ≡ z
+-- past a list that is well formed, and at one that is not
+module _ {A : Type 0} (left : Answer Flattening → A) (k : ℕ) (f : Answer ℕ) where
+  pub gate-open : (n : ℕ) → f ≡ accepted n → (y : A) → listGate left k f y ≡ y
   unfolding listGate
-  gate-alike (accepted n) e z = refl
-  gate-alike (refused j v) e z = refused-accepted e
+  gate-open n e y = rw e
 
-  gate-past : (f : Answer ℕ) → listGate k out f y .answer ≡ accepted x → listGate k out f y ≡ y
-  gate-past f e = gate-alike f e y
+  pub gate-shut : (j : ℕ) (v : Values) → f ≡ refused j v → (y : A) → listGate left k f y ≡ left (refused k (because j v))
+  unfolding listGate
+  gate-shut j v e y = rw e
 
-pub gate-open : (k : ℕ) (out : List ℕ) (f : Answer ℕ) (n : ℕ) → f ≡ accepted n → (y : Outcome (Answer Flattening)) → listGate k out f y ≡ y
+-- what is accepted is past a list that is well formed
+pub gate-past : {A : Type 0} (left : Answer Flattening → A) (answer : A → Answer Flattening) → ((z : Answer Flattening) → answer (left z) ≡ z)
+    → (k : ℕ) (f : Answer ℕ) (y : A) (x : Flattening) → answer (listGate left k f y) ≡ accepted x → (n : ℕ) × (f ≡ accepted n)
 unfolding listGate
-gate-open k out f n e y = rw e
+gate-past left answer is k (accepted n) y x e = (n, refl)
+gate-past left answer is k (refused j v) y x e = refused-accepted (sym (is (refused k (because j v))) ∙ e)
 
 pub record Took (rules : Rules) (out : List ℕ) (r : Run) (x : Flattening) (left : List ℕ) : Type 0 where
   pub accepted-by : AcceptedBy rules (r .how)
@@ -136,7 +139,7 @@ judged-stopped rules out r k v h e y (turns-down n b) q =
     own rules k (r .how) e (subst (λ (m : ℕ). RefusedBy rules m (r .how)) same b)
 
 gate-other : (j : ℕ) (out : List ℕ) (f : Answer ℕ) (y : Outcome (Answer Flattening)) (k : ℕ) (v : Values) → (k ≡ j → ⊥)
-    → listGate j out f y .answer ≡ refused k v → y .answer ≡ refused k v
+    → listGate (roomAsLent out) j f y .answer ≡ refused k v → y .answer ≡ refused k v
 unfolding listGate
 gate-other j out (accepted n) y k v h q = q
 gate-other j out (refused i u) y k v h q = let same : j ≡ k = cc in absurd (h (sym same))
@@ -190,11 +193,13 @@ module _ (rules : Rules) (cs globals locals : List ℕ) where
         → flattening other cs globals locals b out ≡ outcome other out (original other cs globals locals b)
     unfolding flattening
     alike other w b =
-        let first = gate-past 1 out _ x (formation (rules .width) globals) a in
-        let second = sym (answer-as first) ∙ a in
+        let as-lent = roomAsLent out in
+        let g = gate-past as-lent (λ o. o .answer) (λ z. refl) 1 (formation (rules .width) globals) _ x a in
+        let past = sym (answer-as (gate-open as-lent 1 _ (g .0) (g .1) _)) ∙ a in
+        let l = gate-past as-lent (λ o. o .answer) (λ z. refl) 2 (formation (rules .width) locals) _ x past in
         let then = outcome other out (original other cs globals locals b) in
-        ap (λ (n : ℕ). listGate 1 out (formation n globals) (listGate 2 out (formation n locals) then)) (sym w)
-        ∙ gate-alike 1 out _ x (formation (rules .width) globals) a _ ∙ gate-alike 2 out _ x (formation (rules .width) locals) second _
+        ap (λ (n : ℕ). listGate as-lent 1 (formation n globals) (listGate as-lent 2 (formation n locals) then)) (sym w)
+        ∙ gate-open as-lent 1 _ (g .0) (g .1) _ ∙ gate-open as-lent 2 _ (l .0) (l .1) _
 
     run-decides : flattening rules cs globals locals budget out ≡ outcome rules out (runOf budget)
     run-decides = alike rules refl budget

@@ -61,15 +61,19 @@ outcome rules out r = into out (judged rules r)
 
 -- ---- flattening: both lists are looked at first
 
--- refused with k unless the list is well formed, and its own refusal is the reason
-unfoldable pub listGate : ℕ → List ℕ → Answer ℕ → Outcome (Answer Flattening) → Outcome (Answer Flattening)
-listGate k out (accepted n) then = then
-listGate k out (refused j v) then = leaving (refused k (because j v)) out
+-- refused with k unless the list is well formed, and its own refusal is the reason; with what such an answer leaves
+unfoldable pub listGate : {A : Type 0} → (Answer Flattening → A) → ℕ → Answer ℕ → A → A
+listGate left k (accepted n) then = then
+listGate left k (refused j v) then = left (refused k (because j v))
+
+-- the room as lent
+abbrev pub roomAsLent : List ℕ → Answer Flattening → Outcome (Answer Flattening)
+roomAsLent out x = leaving x out
 
 unfoldable pub flattening : Rules → List ℕ → List ℕ → List ℕ → ℕ → List ℕ → Outcome (Answer Flattening)
 flattening rules cs globals locals budget out =
-    listGate 1 out (formation (rules .width) globals)
-    (listGate 2 out (formation (rules .width) locals)
+    listGate (roomAsLent out) 1 (formation (rules .width) globals)
+    (listGate (roomAsLent out) 2 (formation (rules .width) locals)
     (outcome rules out (original rules cs globals locals budget)))
 
 -- ---- what the enums say

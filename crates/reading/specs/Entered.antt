@@ -5,12 +5,12 @@ use mathlib.Core.Bool.{Bool, true, false, cond, _||_, _&&_}
 use mathlib.Core.List.{List, [], _∷_, _++_}
 use lib.ListN.{length, drop}
 use lib.Dec.{eqb, leb}
-use Rattle.number.specs.Answer.{Answer, accepted, refused, alone, because}
+use Rattle.number.specs.Answer.{Answer, accepted, refused, alone}
 use Rattle.index.specs.Formed.{formation}
 use Rattle.reading.specs.Rules.{Rules}
 use Rattle.reading.specs.Lists.{Lists, listed, listsOf}
 use Rattle.reading.specs.Reading.{Entering, Shown, item, call, return, Run, original}
-use Rattle.reading.specs.Answers.{Flattening, outcome, flattened}
+use Rattle.reading.specs.Answers.{Flattening, outcome, listGate, flattened}
 use Rattle.reading.specs.declared.Which.{Which}
 use Rattle.reading.specs.declared.Which.the-variants.{Local, Global}
 use Rattle.reading.specs.declared.FlattenedMarked.{FlattenedMarked}
@@ -100,17 +100,12 @@ abbrev pub rowsFit : Lists → Lent → Bool
 rowsFit lists l =
     leb (rowSize (lists .globals .count)) (length (l .globals)) && leb (rowSize (lists .locals .count)) (length (l .locals))
 
--- refused with k unless a list is well formed, and its own refusal is the reason
-unfoldable pub ifFormed : ℕ → Lent → Answer ℕ → Marked → Marked
-ifFormed k l (accepted n) then = then
-ifFormed k l (refused j v) then = asLent l (refused k (because j v))
-
 -- 1, 2, 43, and then as the run has it
 unfoldable pub marking : Rules → List ℕ → List ℕ → List ℕ → ℕ → Lent → Marked
 marking rules cs globals locals budget l =
     let lists = listsOf (rules .width) globals locals in
-    ifFormed 1 l (formation (rules .width) globals)
-    (ifFormed 2 l (formation (rules .width) locals)
+    listGate (asLent l) 1 (formation (rules .width) globals)
+    (listGate (asLent l) 2 (formation (rules .width) locals)
     (cond (rowsFit lists l) (markedBy rules lists l (original rules cs globals locals budget)) (asLent l (refused 43 alone))))
 
 -- what the enum says

@@ -13,7 +13,7 @@ use Rattle.index.specs.Formed.{formation}
 use Rattle.reading.specs.Rules.{Rules}
 use Rattle.reading.specs.Lists.{Lists, listed, chosen, listsOf}
 use Rattle.reading.specs.Reading.{Run, reading, original}
-use Rattle.reading.specs.Answers.{Flattening, judged, outcome, flattening}
+use Rattle.reading.specs.Answers.{Flattening, judged, outcome, roomAsLent, flattening}
 use Rattle.reading.specs.AnswerLaws.{gate-open}
 use Rattle.reading.specs.StopLaws.{refusal-within, judged-refused}
 use Rattle.reading.specs.Entered.{enteredBy, rowSize, row, rowOf, Lent, Marked, asLent, markedBy, rowsFit, marking}
@@ -34,9 +34,9 @@ same-run rules cs budget globals locals globals′ locals′ p f = same-paired (
 pub same-flattening : SameFlattening
 unfolding flattening
 same-flattening rules cs budget globals locals globals′ locals′ p f out =
-    gate-open 1 out _ _ (p .second Global) _ ∙ gate-open 2 out _ _ (p .second Local) _
+    gate-open (roomAsLent out) 1 _ _ (p .second Global) _ ∙ gate-open (roomAsLent out) 2 _ _ (p .second Local) _
     ∙ ap (outcome rules out) (same-run rules cs budget globals locals globals′ locals′ p f)
-    ∙ sym (gate-open 1 out _ _ (p .first Global) _ ∙ gate-open 2 out _ _ (p .first Local) _)
+    ∙ sym (gate-open (roomAsLent out) 1 _ _ (p .first Global) _ ∙ gate-open (roomAsLent out) 2 _ _ (p .first Local) _)
 
 pub same-marking : SameMarking
 same-marking rules cs budget globals locals globals′ locals′ p f l =

@@ -18,8 +18,8 @@ use Rattle.reading.specs.Items.{bottom, byKind, leaves}
 use Rattle.reading.specs.Reading.{struck, tokensBy, endsInOperand, admitted, onNumber, onStem, onMask, onEnd, onEntry}
 use Rattle.reading.specs.Reading.{onIndex, onCall, onOperator, onCut, onToken, resume, after, tokensOf, read, reading, original}
 use Rattle.reading.specs.Flat.{spelled, flat}
-use Rattle.reading.specs.Answers.{readyBy, judged, outcome}
-use Rattle.reading.specs.Entered.{entered, bits, bytesFrom, row, rowOf, Lent, rowLeft, Marked, markedBy, ifFormed, marking}
+use Rattle.reading.specs.Answers.{readyBy, judged, outcome, listGate}
+use Rattle.reading.specs.Entered.{entered, bits, bytesFrom, row, rowOf, Lent, rowLeft, Marked, markedBy, marking}
 use Rattle.reading.specs.Rows.{Expected, gives, refuses, expectedBy, none, L, only, shallow, behindMask}
 use Rattle.reading.specs.declared.Which.the-variants.{Local, Global}
 
@@ -186,7 +186,7 @@ reached =
 
 -- one theorem for all three lists
 pub rows-hold : All marked × All kept × AllReach reached
-unfolding expectedBy into readyBy judged outcome entered bits bytesFrom row rowOf rowLeft markedBy ifFormed marking
+unfolding expectedBy into readyBy judged outcome entered bits bytesFrom row rowOf rowLeft markedBy listGate marking
     beAt bytesOf signed unsigned integerRows rowsOf numberRow valueBy numberBy readBy formBy spell bytes bytesBy spelling
     bitLength counts callIndex entryOf biased callee
     offset byLast bySize byCount extent placeBy placeIn place partBytes part unless entriesFrom formedBy formation

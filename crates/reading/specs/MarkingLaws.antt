@@ -16,8 +16,9 @@ use Rattle.index.specs.FormedLaws.{well-formed}
 use Rattle.reading.specs.Rules.{Rules}
 use Rattle.reading.specs.Lists.{Lists, Subrs, present, listed, chosen, countIn, entryBy, subrsOf, listsOf}
 use Rattle.reading.specs.Reading.{Run, reading, original}
-use Rattle.reading.specs.Answers.{Flattening, judged, outcome, listGate, flattening}
-use Rattle.reading.specs.Entered.{enteredBy, rowSize, row, rowOf, Lent, Marked, asLent, rowLeft, markedBy, ifFormed, rowsFit, marking}
+use Rattle.reading.specs.Answers.{Flattening, judged, outcome, listGate, roomAsLent, flattening}
+use Rattle.reading.specs.AnswerLaws.{gate-open, gate-past}
+use Rattle.reading.specs.Entered.{enteredBy, rowSize, row, rowOf, Lent, Marked, asLent, rowLeft, markedBy, rowsFit, marking}
 use Rattle.reading.specs.EnteredLaws.{isThere, Shaped, Agree, entered-held, same-reading}
 use Rattle.reading.specs.MarkedDemands.{Paired, SameParts, rowIn, withoutRows}
 use Rattle.reading.specs.declared.Which.{Which}
@@ -112,21 +113,10 @@ module _ (rules : Rules) (a b : Lists) (c : (w : Which) → listed a w .count �
 
 -- ---- past the lists
 
-pub formed-open : (k : ℕ) (l : Lent) (f : Answer ℕ) (n : ℕ) → f ≡ accepted n → (x : Marked) → ifFormed k l f x ≡ x
-unfolding ifFormed
-formed-open k l f n e x = rw e
-
--- what is accepted is past a list that is well formed
-formed-past : (k : ℕ) (l : Lent) (f : Answer ℕ) (y : Marked) (x : Flattening) → ifFormed k l f y .answer ≡ accepted x
-    → (n : ℕ) × (f ≡ accepted n)
-unfolding ifFormed
-formed-past k l (accepted n) y x e = (n, refl)
-formed-past k l (refused j v) y x e = refused-accepted e
-
 -- a list that is not well formed is told alike with rows and without
 shut-alike : (k : ℕ) (l : Lent) (f : Answer ℕ) (x : Marked) (y : Outcome (Answer Flattening)) → withoutRows x ≡ y
-    → withoutRows (ifFormed k l f x) ≡ listGate k (l .room) f y
-unfolding ifFormed listGate
+    → withoutRows (listGate (asLent l) k f x) ≡ listGate (roomAsLent (l .room)) k f y
+unfolding listGate
 shut-alike k l (accepted n) x y e = e
 shut-alike k l (refused j v) x y e = refl
 
@@ -134,8 +124,8 @@ shut-alike k l (refused j v) x y e = refl
 abbrev AsLent : Lent → Marked → Type 0
 AsLent l x = (k : ℕ) (v : Values) → x .answer ≡ refused k v → x .left ≡ l
 
-formed-lent : (k : ℕ) (l : Lent) (f : Answer ℕ) (x : Marked) → AsLent l x → AsLent l (ifFormed k l f x)
-unfolding ifFormed
+formed-lent : (k : ℕ) (l : Lent) (f : Answer ℕ) (x : Marked) → AsLent l x → AsLent l (listGate (asLent l) k f x)
+unfolding listGate
 formed-lent k l (accepted n) x h = h
 formed-lent k l (refused j u) x h = λ n v e. refl
 
@@ -203,7 +193,7 @@ module _ (rules : Rules) (cs globals locals : List ℕ) (budget : ℕ) (l : Lent
   pub marking-open : (n m : ℕ) → formation (rules .width) globals ≡ accepted n → formation (rules .width) locals ≡ accepted m
       → marking rules cs globals locals budget l ≡ by-rows (rowsFit lists l)
   unfolding marking
-  marking-open n m g h = formed-open 1 l _ n g _ ∙ formed-open 2 l _ m h _
+  marking-open n m g h = gate-open (asLent l) 1 _ n g _ ∙ gate-open (asLent l) 2 _ m h _
 
   pub marking-lent : AsLent l (marking rules cs globals locals budget l)
   unfolding marking
@@ -222,12 +212,13 @@ module _ (rules : Rules) (cs globals locals : List ℕ) (budget : ℕ) (l : Lent
   module _ (x : Flattening) (a : marking rules cs globals locals budget l .answer ≡ accepted x) where
     globals-formed : (n : ℕ) × (formation (rules .width) globals ≡ accepted n)
     unfolding marking
-    globals-formed = formed-past 1 l _ _ x a
+    globals-formed = gate-past (asLent l) (λ y. y .answer) (λ z. refl) 1 _ _ x a
 
     locals-formed : (n : ℕ) × (formation (rules .width) locals ≡ accepted n)
     unfolding marking
     locals-formed =
-        formed-past 2 l _ _ x (ap (λ (y : Marked). y .answer) (sym (formed-open 1 l _ (globals-formed .0) (globals-formed .1) _)) ∙ a)
+        gate-past (asLent l) (λ y. y .answer) (λ z. refl) 2 _ _ x
+        (ap (λ (y : Marked). y .answer) (sym (gate-open (asLent l) 1 _ (globals-formed .0) (globals-formed .1) _)) ∙ a)
 
     pub both-formed : (v : Which) → (n : ℕ) × (formation (rules .width) (chosen v globals locals) ≡ accepted n)
     both-formed Local = locals-formed

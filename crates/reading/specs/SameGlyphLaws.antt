@@ -21,7 +21,7 @@ use Rattle.reading.specs.CutLaws.{bytes-drop}
 use Rattle.reading.specs.Items.{Item, Left, leftBy, advanceIn}
 use Rattle.reading.specs.Reading.{Shown, struck, State, Ending, back, ended, stopped, Accepted, Run, tokens, reading, original}
 use Rattle.reading.specs.Flat.{flat, Straight, straight}
-use Rattle.reading.specs.Answers.{Flattening, flatOf, flatReady, outcome, flattening}
+use Rattle.reading.specs.Answers.{Flattening, flatOf, flatReady, outcome, roomAsLent, flattening}
 use Rattle.reading.specs.Demands.{leads, None, Flat, empty, SameGlyph, reported}
 use Rattle.reading.specs.BudgetLaws.{count}
 use Rattle.reading.specs.AnswerLaws.{AcceptedBy, came-to-end, must-end, judged-accepted, accepted-tokens, gate-open, Took, flattening-took}
@@ -243,8 +243,8 @@ module _ (rules : Rules) (cs globals locals : List ℕ) (budget : ℕ) (out : Li
   unfolding flattening
   flattened-again out₁ h =
       let j = just-again rules lists budget cs entries bytes to-its-end (listsOf (rules .width) (empty rules) (empty rules)) (x .tokens) enough in
-      gate-open 1 out₁ (formation (rules .width) (empty rules)) 0 (empty-formed rules) _
-      ∙ gate-open 2 out₁ (formation (rules .width) (empty rules)) 0 (empty-formed rules) _
+      gate-open (roomAsLent out₁) 1 (formation (rules .width) (empty rules)) 0 (empty-formed rules) _
+      ∙ gate-open (roomAsLent out₁) 2 (formation (rules .width) (empty rules)) 0 (empty-formed rules) _
       ∙ just-outcome rules (run .how) (took .accepted-by) items out₁ (original rules (flatOf run) (empty rules) (empty rules) (x .tokens)) j
       (subst (λ (n : ℕ). n ≤ length out₁) (took .size) h)
 

@@ -1,32 +1,12 @@
-use mathlib.Core.Path.{_≡_, sym, ap, _∙_}
-use mathlib.Core.List.{List, [], _∷_}
-use Prim.Native.Nat.{ℕ}
-use types.Run.{OneOf}
-use denote.Enum.Declared.{tagOf}
-use Rattle.number.specs.Answer.{Answer, refused, because, Outcome, leaving}
-use Rattle.index.specs.Formed.{formation, reasonOf, reasonAt, formed}
-use Rattle.index.specs.declared.list.Formed.{Formed}
-use Rattle.index.specs.declared.list.Formed.the-variants.{No}
-use Rattle.index.specs.declared.list.Flaw.{Flaw}
-use Rattle.index.proofs.list.Formed as formed-type
+use mathlib.Core.Path.{_≡_, _∙_}
+use Rattle.index.specs.Formed.{formation, formed}
 use Rattle.reading.specs.Rules.{rulesOf}
 use Rattle.reading.specs.Reading.{original}
-use Rattle.reading.specs.Answers.{Flattening, listGate, outcome, flattening}
-use Rattle.reading.specs.AnswerLaws.{gate-open}
-use Rattle.charstring.proofs.Gates.{flawed, unflawed, formed-by}
+use Rattle.reading.specs.Answers.{outcome, roomAsLent, flattening}
+use Rattle.charstring.proofs.Gates.{shut, opened, formed-by}
 use borrow.Author.Needs.{needs}
 use Rattle.charstring.proofs.flattening.flatten.Statement.{statement}
 use Rattle.charstring.proofs.flattening.flatten.Tie as tie
-
--- a list that is not well formed, by its flaw
-shut : (k : ℕ) (out : List ℕ) (x : Answer ℕ) (then : Outcome (Answer Flattening)) (r : Formed) (f : Flaw)
-    → r ≡ No f → formed r ≡ x → leaving (refused k (because (reasonOf f) (reasonAt f))) out ≡ listGate k out x then
-unfolding listGate
-shut k out x then r f e h = ap (λ (y : Answer ℕ). listGate k out y then) (sym (flawed x r f e h))
-
-opened : (k : ℕ) (out : List ℕ) (x : Answer ℕ) (then : Outcome (Answer Flattening)) (r : Formed)
-    → OneOf (0 ∷ []) (tagOf formed-type.the-type r) → formed r ≡ x → then ≡ listGate k out x then
-opened k out x then r h e = let w = unflawed x r h e in sym (gate-open k out x (w .count) (w .is) then)
 
 globals-formed : (c : tie.After-check-list)
     → let args = c .before .before .before .before .before .before .args in
@@ -46,8 +26,8 @@ both : (c : tie.At-match2-keys2)
     then ≡ flattening (rulesOf (args .profile)) (args .cs .now) (args .globals .now) (args .locals .now) (args .budget) (args .out .now)
 unfolding flattening
 both c =
-    opened 2 _ _ _ (c .before .check-list2 .result) (c .match2 .keys2) (locals-formed (c .before))
-    ∙ opened 1 _ _ _ (c .before .before .before .before .check-list .result) (c .before .before .before .match .keys2)
+    opened (roomAsLent _) 2 _ _ (c .before .check-list2 .result) (c .match2 .keys2) (locals-formed (c .before))
+    ∙ opened (roomAsLent _) 1 _ _ (c .before .before .before .before .check-list .result) (c .before .before .before .match .keys2)
     (globals-formed (c .before .before .before .before))
 
 rules-of-requires : tie.Need-rules-of-requires
@@ -64,7 +44,7 @@ unfolding flattening
 returns c =
     let at-flaw = c .before in
     let globals = at-flaw .before .before in
-    shut 1 _ _ _ (globals .check-list .result) (at-flaw .flaw .given .0 .0) (at-flaw .flaw .given .1) (globals-formed globals)
+    shut (roomAsLent _) 1 _ _ (globals .check-list .result) (at-flaw .flaw .given .0 .0) (at-flaw .flaw .given .1) (globals-formed globals)
 
 enum-told : tie.Need-enum-told
 enum-told c = search needs
@@ -82,8 +62,8 @@ returns-2 c =
     let locals = at-flaw .before .before in
     let at-match = locals .before .before in
     let globals = at-match .before in
-    shut 2 _ _ _ (locals .check-list2 .result) (at-flaw .flaw2 .given .0 .0) (at-flaw .flaw2 .given .1) (locals-formed locals)
-    ∙ opened 1 _ _ _ (globals .check-list .result) (at-match .match .keys2) (globals-formed globals)
+    shut (roomAsLent _) 2 _ _ (locals .check-list2 .result) (at-flaw .flaw2 .given .0 .0) (at-flaw .flaw2 .given .1) (locals-formed locals)
+    ∙ opened (roomAsLent _) 1 _ _ (globals .check-list .result) (at-match .match .keys2) (globals-formed globals)
 
 enum-told-2 : tie.Need-enum-told-2
 enum-told-2 c = search needs

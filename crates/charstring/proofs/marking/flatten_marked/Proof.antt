@@ -6,13 +6,12 @@ use Rattle.index.specs.Formed.{formation, formed}
 use Rattle.reading.specs.Rules.{Rules, rulesOf}
 use Rattle.reading.specs.Lists.{Lists, listsOf}
 use Rattle.reading.specs.Reading.{original}
-use Rattle.reading.specs.Entered.{Lent, Marked, rowSize, markedBy, marking}
+use Rattle.reading.specs.Entered.{Lent, Marked, asLent, rowSize, markedBy, marking}
 use Rattle.reading.specs.ListsLaws.{width-two}
-use Rattle.reading.specs.MarkingLaws.{formed-open}
 use Rattle.reading.specs.declared.Which.the-variants.{Local, Global}
 use Rattle.charstring.specs.MarksLaws.{clear-zeros}
-use Rattle.charstring.specs.MarkedLaws.{Judged, short-globals, short-locals, rows-fit, shut-list, past-lists, few-marks, row-sized}
-use Rattle.charstring.proofs.Gates.{WellFormed, flawed, unflawed, formed-by}
+use Rattle.charstring.specs.MarkedLaws.{Judged, short-globals, short-locals, rows-fit, past-lists, few-marks, row-sized}
+use Rattle.charstring.proofs.Gates.{WellFormed, unflawed, shut, opened, formed-by}
 use borrow.Author.Needs.{needs}
 use Rattle.charstring.proofs.marking.flatten_marked.Statement.{statement}
 use Rattle.charstring.proofs.marking.flatten_marked.Tie as tie
@@ -84,7 +83,7 @@ unfolding marking
 returns c =
     let at-flaw = c .before in
     let globals = at-flaw .before .before in
-    shut-list 1 _ _ _ _ _ (flawed _ (globals .check-list .result) (at-flaw .flaw .given .0 .0) (at-flaw .flaw .given .1) (globals-formed globals))
+    shut (asLent _) 1 _ _ (globals .check-list .result) (at-flaw .flaw .given .0 .0) (at-flaw .flaw .given .1) (globals-formed globals)
 
 enum-told : tie.Need-enum-told
 enum-told c = search needs
@@ -100,9 +99,10 @@ unfolding marking
 returns-2 c =
     let at-flaw = c .before in
     let locals = at-flaw .before .before in
-    let g = globals-well (locals .before .before) in
-    shut-list 2 _ _ _ _ _ (flawed _ (locals .check-list2 .result) (at-flaw .flaw2 .given .0 .0) (at-flaw .flaw2 .given .1) (locals-formed locals))
-    ∙ sym (formed-open 1 _ _ (g .count) (g .is) _)
+    let at-match = locals .before .before in
+    let globals = at-match .before in
+    shut (asLent _) 2 _ _ (locals .check-list2 .result) (at-flaw .flaw2 .given .0 .0) (at-flaw .flaw2 .given .1) (locals-formed locals)
+    ∙ opened (asLent _) 1 _ _ (globals .check-list .result) (at-match .match .keys2) (globals-formed globals)
 
 enum-told-2 : tie.Need-enum-told-2
 enum-told-2 c = search needs
