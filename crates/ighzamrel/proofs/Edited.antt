@@ -1,7 +1,10 @@
 -- Subroutines that are edited, of the functions that users call: what the contracts of two calls of `ighzamrel_flatten_marked`, and of
 -- `ighzamrel_flatten`, say where their lists agree on every entry that the first call's run entered. Stated over the contracts' own readings. Assumes
 -- nothing.
-use mathlib.Core.Path.{_≡_, sym, ap, _∙_}
+use mathlib.Core.Path.{_≡_, sym, ap, subst, _∙_}
+use mathlib.Core.Bool.{_&&_}
+use Prim.Native.Nat.{ℕ}
+use lib.Dec.{eqb, ltb}
 use borrow.Fn.Kinds.{Dens, resT, endedOf}
 use contract.Lifetimes.{Lfts}
 use denote.Triple.Clauses.{AtExit}
@@ -9,10 +12,11 @@ use Rattle.number.specs.Answer.{Answer, Outcome, leaving}
 use Rattle.reading.specs.Rules.{Rules, rulesOf}
 use Rattle.reading.specs.Reading.{original}
 use Rattle.reading.specs.Answers.{Flattening}
-use Rattle.reading.specs.Entered.{enteredBy, Lent, Marked}
-use Rattle.reading.specs.MarkedDemands.{Paired, SameParts}
-use Rattle.reading.specs.MarkedDemandLaws.{same-flattening, same-marking}
+use Rattle.reading.specs.Entered.{enteredBy, Lent, Marked, marking}
+use Rattle.reading.specs.MarkedDemands.{Paired, SameParts, bitAt, rowIn}
+use Rattle.reading.specs.MarkedDemandLaws.{same-flattening, same-marking, unmarked-edits}
 use Rattle.ighzamrel.specs.Told.{Told, told, FlatPlaces, tellFlattening, ToldMarked, tellMarked, profileOf}
+use Rattle.ighzamrel.proofs.Refusals.{numbered-marking, told-accepted}
 use Rattle.ighzamrel.proofs.flattening.ighzamrel_flatten.Kinds as kinds
 use Rattle.ighzamrel.proofs.flattening.ighzamrel_flatten.Reads as reads
 use Rattle.ighzamrel.proofs.marking.ighzamrel_flatten_marked.Kinds as marked-kinds
@@ -81,12 +85,15 @@ module _ (κs κs′ : Lfts 10) (a : Dens κs marked-kinds.ps) (a′ : Dens κs�
         left = record { room = x′ .1 .1 .1 .1 .1 .0 .now; globals = x′ .1 .1 .1 .1 .1 .1 .0 .now; locals = x′ .1 .1 .1 .1 .1 .1 .1 .0 .now };
       }
 
-  -- the same answer, places, room and rows
-  pub marked-alike : Paired (rules .width) (a .1 .0 .now) (a .1 .1 .0 .now) (a′ .1 .0 .now) (a′ .1 .1 .0 .now)
-      → SameParts (rules .width) (a .1 .0 .now) (a .1 .1 .0 .now) (a′ .1 .0 .now) (a′ .1 .1 .0 .now)
-      (enteredBy (original rules (a .0 .now) (a .1 .0 .now) (a .1 .1 .0 .now) (a .1 .1 .1 .1 .0)))
-      → left′ ≡ left
-  marked-alike p f =
+  -- what flattening with rows gives, with the lists of each call
+  abbrev asked : Marked
+  asked = marking rules (a .0 .now) (a .1 .0 .now) (a .1 .1 .0 .now) (a .1 .1 .1 .1 .0) lent
+
+  abbrev asked′ : Marked
+  asked′ = marking rules (a .0 .now) (a′ .1 .0 .now) (a′ .1 .1 .0 .now) (a .1 .1 .1 .1 .0) lent
+
+  told-alike : asked′ ≡ asked → left′ ≡ left
+  told-alike e =
       second ∙ rw (
         same-charstring,
         same-profile,
@@ -100,8 +107,30 @@ module _ (κs κs′ : Lfts 10) (a : Dens κs marked-kinds.ps) (a′ : Dens κs�
         same-reason,
         same-width-kind,
         same-width,
-      ) (ap (λ (m : Marked). tellMarked m old)
-      (same-marking rules (a .0 .now) (a .1 .1 .1 .1 .0) (a .1 .0 .now) (a .1 .1 .0 .now) (a′ .1 .0 .now) (a′ .1 .1 .0 .now) p f lent)) ∙ sym first
+      ) (ap (λ (m : Marked). tellMarked m old) e) ∙ sym first
+
+  -- The same answer, places, room and rows, where the lists have the same bytes at each entry that the first call's run entered.
+  pub marked-alike : Paired (rules .width) (a .1 .0 .now) (a .1 .1 .0 .now) (a′ .1 .0 .now) (a′ .1 .1 .0 .now)
+      → SameParts (rules .width) (a .1 .0 .now) (a .1 .1 .0 .now) (a′ .1 .0 .now) (a′ .1 .1 .0 .now)
+      (enteredBy (original rules (a .0 .now) (a .1 .0 .now) (a .1 .1 .0 .now) (a .1 .1 .1 .1 .0)))
+      → left′ ≡ left
+  marked-alike p f =
+      told-alike
+      (same-marking rules (a .0 .now) (a .1 .1 .1 .1 .0) (a .1 .0 .now) (a .1 .1 .0 .now) (a′ .1 .0 .now) (a′ .1 .1 .0 .now) p f lent)
+
+  -- And where it answered 0 and they have the same bytes at each entry whose bit it left set: every other may be changed at will.
+  pub unmarked-alike : r ≡ 0 → (p : Paired (rules .width) (a .1 .0 .now) (a .1 .1 .0 .now) (a′ .1 .0 .now) (a′ .1 .1 .0 .now))
+      → SameParts (rules .width) (a .1 .0 .now) (a .1 .1 .0 .now) (a′ .1 .0 .now) (a′ .1 .1 .0 .now)
+      (λ v k. ltb k (p .count v) && eqb (bitAt (rowIn v (left .left)) k) 1)
+      → left′ ≡ left
+  unmarked-alike zero p f =
+      let accepts = told-accepted (asked .answer) old (left .told .places)
+      (numbered-marking rules (a .0 .now) (a .1 .0 .now) (a .1 .1 .0 .now) (a .1 .1 .1 .1 .0) lent)
+      (ap (λ (n : ℕ). told n (left .told .places)) (sym zero) ∙ ap (λ (t : ToldMarked). t .told) first) in
+      told-alike
+      (unmarked-edits rules (a .0 .now) (a .1 .0 .now) (a .1 .1 .0 .now) (a .1 .1 .1 .1 .0) lent _ accepts (a′ .1 .0 .now) (a′ .1 .1 .0 .now) p
+      (subst (λ (l : Lent). SameParts (rules .width) (a .1 .0 .now) (a .1 .1 .0 .now) (a′ .1 .0 .now) (a′ .1 .1 .0 .now)
+      (λ v k. ltb k (p .count v) && eqb (bitAt (rowIn v l) k) 1)) (ap (λ (t : ToldMarked). t .left) first) f))
 
 -- two calls of `ighzamrel_flatten` that differ in their lists alone
 module _ (κs κs′ : Lfts 8) (a : Dens κs kinds.ps) (a′ : Dens κs′ kinds.ps) (r : resT kinds.r κs .Denot) (r′ : resT kinds.r κs′ .Denot)
