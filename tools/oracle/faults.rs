@@ -69,7 +69,16 @@ pub(crate) fn tell(call: &Call, lent: &Lent, outcome: &Outcome) -> u32 {
     }
     // SAFETY: what is told to be written fits the room.
     unsafe { lent.out.copy_from(outcome.bytes.as_ptr(), outcome.bytes.len()) };
+    tell_rows(lent, &outcome.rows);
     outcome.answer
+}
+
+/// Leaves rows that are as long as those lent.
+pub(crate) fn tell_rows(lent: &Lent, rows: &[Vec<u8>; 2]) {
+    for ((at, _), row) in lent.rows.iter().zip(rows) {
+        // SAFETY: each row stands in a block of its own.
+        unsafe { at.copy_from(row.as_ptr(), row.len()) };
+    }
 }
 
 pub(crate) fn tokens_place(call: &Call) -> usize {

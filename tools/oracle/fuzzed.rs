@@ -5,14 +5,15 @@
 //!     2       a number that is added to the others' sum; see `may_be_long`
 //!     3, 4    the budget, modulo 5000; where it may be long, as it is, and from FFF0 on 150000; of a font, a tenth of that
 //!     5, 6    the room, modulo 600; from FFF0 on, 40000
-//!     7..10   a value
-//!     11..14  a number
+//!     7..10   a value; where there are rows, 7 and 8 are how many bytes more than one too few each has, modulo 6
+//!     11..14  a number; where there are rows, what they hold, over and over
 //!     15..18  how many bytes behind the head are the last slice, and the one before it; the first slice is all that is left
 
 use crate::inputs::case::NONE;
 use crate::operation::{Argument, Call, Operation};
 use crate::operations::OPERATIONS;
-use crate::rules::index::entries;
+use crate::rules::index::{entries, formed};
+use crate::rules::marking::row_size;
 use std::borrow::Cow;
 use std::path::Path;
 
@@ -84,7 +85,23 @@ pub fn call(bytes: &[u8]) -> Call<'static> {
         _ => [left, &[], &[]],
     };
     fill(&mut call, slices, flags, long);
+    if operation.takes_rows() {
+        call.rows = rows(&call, &head).map(Cow::Owned);
+    }
     call
+}
+
+/// The rows of the second list and of the third.
+fn rows(call: &Call, head: &[u8; HEAD]) -> [Vec<u8>; 2] {
+    [0, 1].map(|i| {
+        let size = needed(call, i) + usize::from(head[7 + i] % 6);
+        head[11..15].iter().copied().cycle().take(size.saturating_sub(1)).collect()
+    })
+}
+
+/// How many bytes a row needs.
+fn needed(call: &Call, row: usize) -> usize {
+    formed(&call.slices[row + 1]).map_or(0, row_size)
 }
 
 fn budget(operation: &Operation, said: u32, long: bool) -> u32 {
@@ -210,11 +227,23 @@ fn seed(call: &Call) -> Option<Vec<u8>> {
     let budget = call.budget.saturating_mul(glyphs(call.operation));
     seed.extend((budget.min(4999) as u16).to_be_bytes());
     seed.extend((call.room.min(599) as u16).to_be_bytes());
-    seed.extend(call.value.to_be_bytes());
-    seed.extend(call.number.to_be_bytes());
+    seed.extend(if call.operation.takes_rows() { said_rows(call) } else { said_numbers(call) });
     seed.extend(u16::try_from(last.len()).ok()?.to_be_bytes());
     seed.extend(u16::try_from(middle.len()).ok()?.to_be_bytes());
     Some([&seed[..], last, middle, first].concat())
+}
+
+fn said_numbers(call: &Call) -> [u8; 8] {
+    (u64::from(call.value as u32) << 32 | u64::from(call.number)).to_be_bytes()
+}
+
+/// The lengths of the rows, and the first byte of each.
+fn said_rows(call: &Call) -> [u8; 8] {
+    let [first, second] = [0, 1].map(|i| {
+        let more = (call.rows[i].len() + 1).saturating_sub(needed(call, i)).min(5);
+        (more as u8, call.rows[i].first().copied().unwrap_or(0))
+    });
+    [first.0, second.0, 0, 0, first.1, second.1, first.1, second.1]
 }
 
 /// The same with lists that are built, where they are well formed and their entries short.
@@ -272,11 +301,13 @@ fn long_seeds() -> Vec<Vec<u8>> {
     seeds
 }
 
-/// The head of an operation by its number, with all the budget and room; the slice before the last has so many bytes.
+/// The head of an operation by its number, with all the budget and room, and rows of just their length; the slice before the last
+/// has so many bytes.
 fn long_head(number: u8, flags: u8, middle: usize) -> Vec<u8> {
     let place = OPERATIONS.iter().position(|operation| operation.number == number).unwrap_or(0);
     let mut head = vec![place as u8, flags, 0, 0xFF, 0xFF, 0xFF, 0xFF];
     head.resize(HEAD, 0);
+    head[7..9].fill(1);
     head[18] = middle as u8;
     head
 }
@@ -291,7 +322,7 @@ fn entry(bytes: &[u8]) -> Vec<u8> {
     [&[bytes.len() as u8], bytes].concat()
 }
 
-/// Charstrings over lists with another bias, and over 65,535 hints.
+/// Charstrings over lists with another bias, over 65,535 hints, and with rows over as many flat bytes as a call keeps.
 fn over_lists() -> Vec<Vec<u8>> {
     let twice = |i: u8| entry(&[33 + i, 0x0A, 33 + i, 0x0A]);
     let stems = entry(&[&[0x8B; 48][..], &[1]].concat());
@@ -301,8 +332,9 @@ fn over_lists() -> Vec<Vec<u8>> {
         for shape in [0xD6, 0xD7, 0xD8, 0xF7] {
             let calls =
                 [0xFE, 0xFF, 0x0A, 0xFE, 0xFE, 0x1D, 0x20, 0x0A, 0x1C, 0x80, 0x00, 0x0A, 0x0E];
-            seeds.push(over_list(8, flags, &two(shape), &calls));
+            seeds.extend([8, 32].map(|number| over_list(number, flags, &two(shape), &calls)));
         }
+        seeds.push(over_list(32, flags, &moves(), &[0x22, 0x0A, 0x0E]));
         seeds.push(over_list(8, flags, &doubled, &[0x20, 0x0A, 0x8B, 0x8B, 0x0E]));
     }
     seeds
@@ -313,13 +345,17 @@ fn fonts() -> Vec<Vec<u8>> {
     let many = |shape: u8| [&[shape][..], &entry(&[0x20, 0x0A, 0x0E])].concat();
     let mut seeds: Vec<_> =
         [0xD7, 0xD8, 0xFE, 0xFF].map(|shape| over_list(33, 0, &two(0), &many(shape))).to_vec();
-    let eight = |called: u8| entry(&[called, 0x0A].repeat(8));
-    let list = [vec![0], entry(&[0x15; 64]), eight(0x20), eight(0x21)].concat();
     for glyphs in [2, 7] {
         let glyphs = entry(&[0x22, 0x0A, 0x22, 0x0A, 0x0E]).repeat(glyphs);
-        seeds.push(over_list(33, STRICT, &list, &[&[0][..], &glyphs].concat()));
+        seeds.push(over_list(33, STRICT, &moves(), &[&[0][..], &glyphs].concat()));
     }
     seeds
+}
+
+/// Entries of 64, 512 and 4,096 moves.
+fn moves() -> Vec<u8> {
+    let eight = |called: u8| entry(&[called, 0x0A].repeat(8));
+    [vec![0], entry(&[0x15; 64]), eight(0x20), eight(0x21)].concat()
 }
 
 /// Two entries, or more by the shape.

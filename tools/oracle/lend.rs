@@ -1,6 +1,6 @@
-//! What is lent to a C function: each slice and the room stand flush against a page that nothing may touch, so that code
-//! without instrumentation faults at the first byte that it reads or writes too far. The room, the bytes on its other side
-//! and each place hold a pattern. After every call all of it is looked at.
+//! What is lent to a C function: each slice, the room and the rows stand flush against a page that nothing may touch, so that
+//! code without instrumentation faults at the first byte that it reads or writes too far. The room, the bytes on the other side
+//! of it and of the rows, and each place hold a pattern. After every call all of it is looked at.
 
 use crate::operation::{
     library, Argument, Call, Fault, Found, Lent, Operation, Outcome, Place, Side, NO_WIDTH, PLACES,
@@ -8,9 +8,10 @@ use crate::operation::{
 use std::borrow::Cow;
 use std::ffi::c_void;
 use std::ptr;
+use std::slice;
 use std::sync::OnceLock;
 
-/// The most bytes of a slice or a room.
+/// The most bytes of a slice, a room or a row.
 const ARENA: usize = 1 << 25;
 const PAGE: usize = 1 << 16;
 
@@ -23,8 +24,8 @@ pub const MOST_ROOM: usize = ARENA - GUARD;
 /// What a place holds before a call.
 const UNSET: u64 = 0xA55A_5AA5_C33C_3CC3;
 
-/// The row of which the pattern is a part, from another byte on at each call. No byte of it is 0.
-const ROW: usize = 256;
+/// The pattern starts at another of so many bytes at each call. No byte of it is 0.
+const STARTS: usize = 256;
 
 extern "C" {
     fn mmap(at: *mut c_void, size: usize, may: i32, how: i32, file: i32, from: i64) -> *mut c_void;
@@ -55,6 +56,22 @@ impl Arena {
         assert!(size <= ARENA, "too long to be lent");
         self.0.wrapping_add(if side == Side::Low { 0 } else { ARENA - size })
     }
+
+    /// A block with a guard on its other side, both full of the pattern.
+    fn guarded(&self, size: usize, side: Side, pattern: &[u8]) -> *mut u8 {
+        // SAFETY: the block and its guard lie in the arena, and nothing else refers to them.
+        unsafe { self.block(size + GUARD, side).copy_from(pattern.as_ptr(), size + GUARD) };
+        self.block(size, side)
+    }
+
+    /// Whether the guard of such a block, and all of it behind the first so many bytes, still hold the pattern.
+    fn keeps(&self, size: usize, side: Side, pattern: &[u8], first: usize) -> bool {
+        // SAFETY: the block and its guard lie in the arena, and the call is over.
+        let all = unsafe { slice::from_raw_parts(self.block(size + GUARD, side), size + GUARD) };
+        let before = if side == Side::Low { 0 } else { GUARD };
+        let behind = before + first;
+        all[..before] == pattern[..before] && all[behind..] == pattern[behind..all.len()]
+    }
 }
 
 /// A fault to call in the library's stead, in one operation or in all.
@@ -72,72 +89,77 @@ fn planted(call: &Call) -> fn(&Call, &Lent) -> u32 {
 pub struct Lender {
     arenas: [Arena; 3],
     out: Arena,
-    row: Vec<u8>,
-    salt: usize,
+    rows: [Arena; 2],
+    pattern: Vec<u8>,
+    start: usize,
 }
 
 impl Lender {
     pub fn new() -> Self {
-        let row =
-            (0..ARENA + ROW).map(|i| (i as u8).wrapping_mul(37).wrapping_add((i >> 8) as u8) | 1);
+        let pattern = (0..ARENA + STARTS)
+            .map(|i| (i as u8).wrapping_mul(37).wrapping_add((i >> 8) as u8) | 1)
+            .collect();
         let arenas = [Arena::new(), Arena::new(), Arena::new()];
-        Lender { arenas, out: Arena::new(), row: row.collect(), salt: 0 }
+        let rows = [Arena::new(), Arena::new()];
+        Lender { arenas, out: Arena::new(), rows, pattern, start: 0 }
     }
 
     /// Makes a call, and looks at all that was lent.
     pub fn perform(&mut self, call: &Call, side: Side) -> Result<Outcome, String> {
-        self.salt = (self.salt + 29) % ROW;
+        self.start = (self.start + 29) % STARTS;
         let handed = [0, 1, 2].map(|i| handed(call, i));
         let mut places = [UNSET; PLACES];
-        let lent = self.lent(call.room, &handed, &mut places, side);
+        let lent = self.lent(call, &handed, &mut places, side);
         let answer = planted(call)(call, &lent);
         // SAFETY: each block lies in its arena, and the call is over.
-        let (room, slices) = unsafe {
-            let all = std::slice::from_raw_parts(self.guarded(call.room, side), call.room + GUARD);
-            (all, lent.slices.map(|(at, n)| std::slice::from_raw_parts(at, n)))
-        };
-        if slices.iter().zip(&handed).any(|(left, handed)| left[..] != handed[..]) {
+        let left = |(at, size): (*mut u8, usize)| unsafe { slice::from_raw_parts(at, size) };
+        if lent.slices.map(left).iter().zip(&handed).any(|(left, handed)| left[..] != handed[..]) {
             return Err("  a byte of an input was changed\n".into());
         }
-        let before = if side == Side::Low { 0 } else { GUARD };
-        let outcome = outcome(call, answer, &places, &room[before..])?;
+        let mut outcome = outcome(call, answer, &places, left((lent.out, lent.room)))?;
+        outcome.rows = rows(call, answer, lent.rows.map(left))?;
         let reported = if call.operation.found == Found::Written { outcome.bytes.len() } else { 0 };
-        let row = &self.row[self.salt..];
-        let behind = before + reported;
-        if room[..before] != row[..before] || room[behind..] != row[behind..room.len()] {
+        if !self.keeps_others(call, side, reported) {
             return Err("  a byte was changed outside of what is reported\n".into());
         }
         Ok(outcome)
     }
 
-    /// The room with its guard.
-    fn guarded(&self, room: usize, side: Side) -> *mut u8 {
-        self.out.block(room + GUARD, side)
+    /// Whether nothing changed beside the room and the rows, nor in the room behind what is reported.
+    fn keeps_others(&self, call: &Call, side: Side, reported: usize) -> bool {
+        let pattern = &self.pattern[self.start..];
+        let row =
+            |(arena, row): (&Arena, &Cow<[u8]>)| arena.keeps(row.len(), side, pattern, row.len());
+        self.out.keeps(call.room, side, pattern, reported)
+            && self.rows.iter().zip(&call.rows).all(row)
     }
 
     /// Lays all out.
     fn lent(
         &self,
-        room: usize,
+        call: &Call,
         handed: &[Cow<[u8]>; 3],
         places: &mut [u64; PLACES],
         side: Side,
     ) -> Lent {
+        let pattern = &self.pattern[self.start..];
         let block = |i: usize| (self.arenas[i].block(handed[i].len(), side), handed[i].len());
         let mut slices = [0, 1, 2].map(block);
-        // SAFETY: each block lies in its arena, and nothing else refers to it.
-        unsafe {
-            let pattern = self.row[self.salt..].as_ptr();
-            ptr::copy_nonoverlapping(pattern, self.guarded(room, side), room + GUARD);
-            for ((block, size), bytes) in slices.iter().zip(handed) {
-                ptr::copy_nonoverlapping(bytes.as_ptr(), *block, *size);
-            }
+        let row = |i: usize| {
+            let size = call.rows[i].len();
+            (self.rows[i].guarded(size, side, pattern), size)
+        };
+        let (out, rows) = (self.out.guarded(call.room, side, pattern), [0, 1].map(row));
+        let bytes = handed.iter().chain(&call.rows);
+        for ((block, size), bytes) in slices.iter().chain(&rows).zip(bytes) {
+            // SAFETY: each block lies in its arena, and nothing else refers to it.
+            unsafe { ptr::copy_nonoverlapping(bytes.as_ptr(), *block, *size) };
         }
-        if handed[1] == handed[2] && self.salt % 2 == 1 {
+        if handed[1] == handed[2] && self.start % 2 == 1 {
             // two lists may be the very same bytes
             slices[2] = slices[1];
         }
-        Lent { slices, out: self.out.block(room, side), room, places: places.as_mut_ptr(), side }
+        Lent { slices, out, room: call.room, rows, places: places.as_mut_ptr(), side }
     }
 }
 
@@ -179,7 +201,7 @@ fn outcome(
     if answer == 0 {
         let part = match operation.found {
             Found::Nothing => Some(&[][..]),
-            Found::Written => room[..call.room].get(..places[0] as usize),
+            Found::Written => room.get(..places[0] as usize),
             Found::InSlice => call.slices[0]
                 .get(places[0] as usize..)
                 .and_then(|from| from.get(..places[1] as usize)),
@@ -187,6 +209,17 @@ fn outcome(
         outcome.bytes = part.ok_or("  more bytes are reported than there are\n")?.to_vec();
     }
     Ok(outcome)
+}
+
+/// The rows as an accepted call left them; a refused one must have left them as lent.
+fn rows(call: &Call, answer: u32, left: [&[u8]; 2]) -> Result<[Vec<u8>; 2], String> {
+    if answer == 0 {
+        return Ok(left.map(<[u8]>::to_vec));
+    }
+    if left.iter().zip(&call.rows).any(|(left, lent)| left[..] != lent[..]) {
+        return Err(format!("  answer {answer} changed a row\n"));
+    }
+    Ok(Default::default())
 }
 
 /// A slice as the C function takes it: lengths are words of this machine.

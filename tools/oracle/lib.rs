@@ -11,6 +11,7 @@ mod kept;
 pub mod lend;
 pub mod library;
 pub mod list;
+mod mark_faults;
 mod mask_faults;
 pub mod operation;
 pub mod operations;

@@ -54,14 +54,18 @@ pub struct Call<'a> {
     pub budget: u32,
     pub room: usize,
     pub slices: [Cow<'a, [u8]>; 3],
+    /// The rows as lent.
+    pub rows: [Cow<'a, [u8]>; 2],
 }
 
-/// What a call gives: the answer, the values at the places that it gives, and the bytes written or found.
+/// What a call gives: the answer, the values at the places that it gives, the bytes written or found, and the whole rows as an
+/// accepted call leaves them. A refused one leaves them as lent, and gives none.
 #[derive(Clone, Debug, PartialEq, Eq)]
 pub struct Outcome {
     pub answer: u32,
     pub values: [Option<i64>; PLACES],
     pub bytes: Vec<u8>,
+    pub rows: [Vec<u8>; 2],
 }
 
 /// Which page a block stands against: the one before it, or the one behind it.
@@ -76,6 +80,7 @@ pub struct Lent {
     pub slices: [(*mut u8, usize); 3],
     pub out: *mut u8,
     pub room: usize,
+    pub rows: [(*mut u8, usize); 2],
     pub places: *mut u64,
     /// Whether bytes before the room may be touched, or behind it.
     pub side: Side,
@@ -108,7 +113,7 @@ pub const BARE: Operation = Operation {
     faults: &[],
 };
 
-/// An argument, in a record's order; the slices by their place among them.
+/// An argument, in a record's order; the slices and the rows by their place among them.
 #[derive(Clone, Copy, PartialEq)]
 pub enum Argument {
     Kind,
@@ -122,6 +127,8 @@ pub enum Argument {
     List(usize),
     /// Words, the first slice.
     Lengths,
+    /// Bytes that an accepted call changes.
+    Row(usize),
 }
 
 /// The type of a place.
@@ -178,8 +185,10 @@ pub enum Must<'a> {
 
 impl<'a> Call<'a> {
     pub fn of(operation: &'static Operation) -> Self {
-        let slices = [b"", b"", b""].map(|none| Cow::Borrowed(&none[..]));
-        Call { operation, kind: 0, value: 0, number: 0, profile: 0, budget: 0, room: 0, slices }
+        let (kind, value, number, profile, budget, room) = (0, 0, 0, 0, 0, 0);
+        let none = || Cow::Borrowed(&[][..]);
+        let (slices, rows) = ([none(), none(), none()], [none(), none()]);
+        Call { operation, kind, value, number, profile, budget, room, slices, rows }
     }
 
     pub fn fixed(&self) -> bool {
@@ -196,9 +205,29 @@ impl<'a> Call<'a> {
         words.map(|word| u32::from_be_bytes([word[0], word[1], word[2], word[3]])).collect()
     }
 
-    /// The same call, whose slices stand where this one's do.
+    /// The bytes that an argument has, if any.
+    pub fn bytes(&self, argument: Argument) -> Option<&Cow<'a, [u8]>> {
+        match argument {
+            Argument::Row(i) => Some(&self.rows[i]),
+            _ => argument.slice().map(|i| &self.slices[i]),
+        }
+    }
+
+    /// The same call with other bytes for an argument that has some.
+    pub fn with_bytes(mut self, argument: Argument, bytes: Vec<u8>) -> Self {
+        match (argument, argument.slice()) {
+            (Argument::Row(i), _) => self.rows[i] = Cow::Owned(bytes),
+            (_, Some(i)) => self.slices[i] = Cow::Owned(bytes),
+            _ => {}
+        }
+        self
+    }
+
+    /// The same call, whose slices and rows stand where this one's do.
     pub fn again(&self) -> Call<'_> {
-        Call { slices: self.slices.each_ref().map(|slice| Cow::Borrowed(&slice[..])), ..*self }
+        let slices = self.slices.each_ref().map(|slice| Cow::Borrowed(&slice[..]));
+        let rows = self.rows.each_ref().map(|row| Cow::Borrowed(&row[..]));
+        Call { slices, rows, ..*self }
     }
 
     /// The same call with a slice in the place of another.
@@ -210,13 +239,15 @@ impl<'a> Call<'a> {
 
     /// The same call, of its own bytes.
     pub fn owned(&self) -> Call<'static> {
-        Call { slices: self.slices.each_ref().map(|slice| Cow::Owned(slice.to_vec())), ..*self }
+        let slices = self.slices.each_ref().map(|slice| Cow::Owned(slice.to_vec()));
+        let rows = self.rows.each_ref().map(|row| Cow::Owned(row.to_vec()));
+        Call { slices, rows, ..*self }
     }
 }
 
 impl Outcome {
     pub fn refused(answer: u32) -> Self {
-        Outcome { answer, values: [None; PLACES], bytes: Vec::new() }
+        Outcome { answer, values: [None; PLACES], bytes: Vec::new(), rows: Default::default() }
     }
 
     /// An answer with its first values.
@@ -251,6 +282,11 @@ pub fn library(call: &Call, lent: &Lent) -> u32 {
 impl Operation {
     pub fn shows(&self) -> bool {
         self.found != Found::Nothing
+    }
+
+    /// Whether rows are lent to it.
+    pub fn takes_rows(&self) -> bool {
+        self.arguments.contains(&Argument::Row(0))
     }
 
     /// The places that an answer gives: of its sets, the first with all places that changed; `None` where there is none.
@@ -289,6 +325,7 @@ impl Argument {
         match self {
             Argument::List(_) => "list   ",
             Argument::Lengths => "lengths",
+            Argument::Row(_) => "row    ",
             _ => "bytes  ",
         }
     }

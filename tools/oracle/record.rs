@@ -5,6 +5,9 @@ use crate::operation::{Argument, Call, Operation, Outcome, PLACES};
 /// The most bytes that a record may have, and the most room that it may ask for.
 pub const MOST: usize = 1_048_576;
 
+/// The most bytes that a row may have.
+pub const MOST_ROW: usize = 16_384;
+
 /// The line for a record that is none.
 pub const UNREADABLE: &str = "?";
 
@@ -20,28 +23,28 @@ impl Call<'_> {
                 Argument::Number => record.extend(self.number.to_be_bytes()),
                 Argument::Budget => record.extend(self.budget.to_be_bytes()),
                 Argument::Room => record.extend((self.room as u32).to_be_bytes()),
-                Argument::Bytes(i) | Argument::List(i) => {
-                    record.extend((self.slices[i].len() as u32).to_be_bytes());
-                    record.extend(&self.slices[i][..]);
-                }
-                Argument::Lengths => {
-                    record.extend((self.slices[0].len() as u32 / 4).to_be_bytes());
-                    record.extend(&self.slices[0][..]);
+                Argument::Bytes(_) | Argument::List(_) | Argument::Lengths | Argument::Row(_) => {
+                    let bytes = self.bytes(*argument).map_or(&[][..], |bytes| &bytes[..]);
+                    let unit = if *argument == Argument::Lengths { 4 } else { 1 };
+                    record.extend((bytes.len() as u32 / unit).to_be_bytes());
+                    record.extend(bytes);
                 }
             }
         }
         record
     }
 
-    /// The line that is owed for the call's record; a kind, a profile, a room or a length out of range makes it no record.
+    /// The line that is owed for the call's record; a kind, a profile, a room, a row or a length out of range makes it no record.
     pub fn line(&self) -> Result<String, String> {
-        if self.kind > 1 || self.profile > 1 || self.room > MOST || self.record().len() > MOST {
+        let long_row = self.rows.iter().any(|row| row.len() > MOST_ROW);
+        let long = self.room > MOST || self.record().len() > MOST || long_row;
+        if self.kind > 1 || self.profile > 1 || long {
             return Ok(UNREADABLE.into());
         }
         Ok((self.operation.owed)(self)?.outcome.line(self.operation))
     }
 
-    /// For people: what is handed over, long slices cut short.
+    /// For people: what is handed over, what is long cut short.
     pub fn described(&self) -> String {
         let mut text = format!("  ighzamrel_{}", self.operation.name);
         for argument in self.operation.arguments {
@@ -52,12 +55,12 @@ impl Call<'_> {
                 Argument::Number => format!(", number {}", self.number),
                 Argument::Budget => format!(", budget {}", self.budget),
                 Argument::Room => format!(", room {}", self.room),
-                Argument::Bytes(_) | Argument::List(_) | Argument::Lengths => continue,
+                _ => continue,
             };
         }
         for argument in self.operation.arguments {
-            if let Some(i) = argument.slice() {
-                text += &format!("\n  {} {}", argument.word(), shown(&self.slices[i]));
+            if let Some(bytes) = self.bytes(*argument) {
+                text += &format!("\n  {} {}", argument.word(), shown(bytes));
             }
         }
         text + "\n"
@@ -65,7 +68,7 @@ impl Call<'_> {
 }
 
 impl Outcome {
-    /// What `cases` prints: the answer, the values that it gives, and the bytes of an accepted call that has some.
+    /// What `cases` prints: the answer, the values that it gives, and of an accepted call the bytes and the rows, where it has some.
     pub fn line(&self, operation: &Operation) -> String {
         let mut line = self.answer.to_string();
         let (kind, width) = operation.width.unwrap_or((PLACES, PLACES));
@@ -78,6 +81,9 @@ impl Outcome {
         }
         if self.answer == 0 && operation.shows() {
             line += &format!(" {}", hex(&self.bytes));
+        }
+        if self.answer == 0 && operation.takes_rows() {
+            self.rows.iter().for_each(|row| line += &format!(" {}", hex(row)));
         }
         line
     }

@@ -6,6 +6,7 @@ use crate::inputs::case::{L, NONE, STRICT};
 use crate::inputs::{damaged, structured};
 use crate::lend::MOST_ROOM;
 use crate::operation::Call;
+use crate::operations::flatten_marked::with_exact_rows;
 use crate::operations::{flatten, flatten_font, OPERATIONS};
 use crate::random::Random;
 use crate::shrink::described;
@@ -173,13 +174,15 @@ impl Run {
     }
 }
 
-/// Glyph by glyph, and in one call for each local list in both profiles.
+/// Glyph by glyph, without rows and with them, and in one call for each local list in both profiles.
 fn of_font(part: &mut Part, font: &Font, most: usize) -> Result<(), String> {
     let step = font.glyphs().count().div_ceil(most).max(1);
     for glyph in font.glyphs().step_by(step) {
-        // a font's lists are long, and are lent anew at each call: so of what follows, a third
+        // a font's lists are long, and are lent anew at each call: so of what follows, a third or less
         let slices = [glyph.charstring, glyph.globals, glyph.locals];
-        part.look(&flattening(slices, LONG, LONG_ROOM), 3)?;
+        let call = flattening(slices, LONG, LONG_ROOM);
+        part.look(&call, 3)?;
+        part.look(&with_exact_rows(call), 9)?;
     }
     for slices in font.whole(step) {
         let room = (4 * slices[0].len() + 64).min(MOST_ROOM);

@@ -4,7 +4,6 @@ use crate::compare::{Comparison, Difference};
 use crate::inputs::case::list;
 use crate::operation::{Argument, Call};
 use crate::rules::index::entries;
-use std::borrow::Cow;
 
 /// How many smaller inputs are tried, and the budget beyond which no run of theirs is followed.
 const TRIES: u32 = 20_000;
@@ -18,7 +17,10 @@ struct Shrinking<'a> {
 
 /// The description of a difference, on the smallest input that was found.
 pub fn described(comparison: &mut Comparison, found: Difference) -> String {
-    let lengths = |call: &Call| call.slices.each_ref().map(|slice| slice.len());
+    let lengths = |call: &Call| -> Vec<usize> {
+        let all = call.operation.arguments.iter().filter_map(|argument| call.bytes(*argument));
+        all.map(|bytes| bytes.len()).collect()
+    };
     let before = lengths(&found.call);
     let mut shrinking = Shrinking { comparison, tries: TRIES, smallest: found };
     let budget = shrinking.smallest.call.budget.min(MOST_BUDGET);
@@ -29,7 +31,7 @@ pub fn described(comparison: &mut Comparison, found: Difference) -> String {
     let Difference { call, why } = shrinking.smallest;
     let after = lengths(&call);
     format!(
-        "{}{why}  found with slices of {before:?} bytes, and cut to {after:?}\n",
+        "{}{why}  found with slices and rows of {before:?} bytes, and cut to {after:?}\n",
         call.described()
     )
 }
@@ -50,25 +52,27 @@ impl Shrinking<'_> {
         }
     }
 
-    fn with(&mut self, which: usize, slice: Vec<u8>) -> bool {
-        let mut call = self.smallest.call.clone();
-        call.slices[which] = Cow::Owned(slice);
-        self.differs(call)
+    fn bytes(&self, argument: Argument) -> Vec<u8> {
+        self.smallest.call.bytes(argument).map_or(Vec::new(), |bytes| bytes.to_vec())
+    }
+
+    fn with(&mut self, argument: Argument, bytes: Vec<u8>) -> bool {
+        self.differs(self.smallest.call.clone().with_bytes(argument, bytes))
     }
 
     /// Whether anything could be left out.
     fn pass(&mut self) -> bool {
         let mut smaller = false;
-        for argument in self.smallest.call.operation.arguments {
-            smaller |= match *argument {
-                Argument::Bytes(i) => self.drop_bytes(i, 1),
-                Argument::Lengths => self.drop_bytes(0, 4),
-                Argument::List(i) => match entries(&self.smallest.call.slices[i]) {
+        for &argument in self.smallest.call.operation.arguments {
+            smaller |= match argument {
+                Argument::Bytes(_) | Argument::Row(_) => self.drop_bytes(argument, 1),
+                Argument::Lengths => self.drop_bytes(argument, 4),
+                Argument::List(_) => match entries(&self.bytes(argument)) {
                     Ok(entries) => {
                         let entries = entries.into_iter().map(<[u8]>::to_vec).collect();
-                        self.drop_from_entries(i, entries)
+                        self.drop_from_entries(argument, entries)
                     }
-                    Err(_) => self.drop_bytes(i, 1),
+                    Err(_) => self.drop_bytes(argument, 1),
                 },
                 _ => false,
             };
@@ -77,15 +81,17 @@ impl Shrinking<'_> {
     }
 
     /// Leaves out runs of bytes, long ones first.
-    fn drop_bytes(&mut self, which: usize, unit: usize) -> bool {
+    fn drop_bytes(&mut self, argument: Argument, unit: usize) -> bool {
         let mut smaller = false;
-        let mut width = self.smallest.call.slices[which].len() / unit * unit;
+        let mut bytes = self.bytes(argument);
+        let mut width = bytes.len() / unit * unit;
         while width > 0 {
             let mut at = 0;
-            while at + width <= self.smallest.call.slices[which].len() {
-                let mut slice = self.smallest.call.slices[which].to_vec();
-                slice.drain(at..at + width);
-                if self.with(which, slice) {
+            while at + width <= bytes.len() {
+                let mut fewer = bytes.clone();
+                fewer.drain(at..at + width);
+                if self.with(argument, fewer.clone()) {
+                    bytes = fewer;
                     smaller = true;
                 } else {
                     at += unit;
@@ -97,14 +103,14 @@ impl Shrinking<'_> {
     }
 
     /// Leaves out runs of entries at either end, long ones first, and bytes of those that are left.
-    fn drop_from_entries(&mut self, which: usize, mut entries: Vec<Vec<u8>>) -> bool {
+    fn drop_from_entries(&mut self, argument: Argument, mut entries: Vec<Vec<u8>>) -> bool {
         let mut smaller = false;
         let mut width = entries.len();
         while width > 0 {
             while let Some(fewer) = entries.len().checked_sub(width) {
-                if self.with(which, list(&entries[..fewer])) {
+                if self.with(argument, list(&entries[..fewer])) {
                     entries.truncate(fewer);
-                } else if self.with(which, list(&entries[width..])) {
+                } else if self.with(argument, list(&entries[width..])) {
                     entries.drain(..width);
                 } else {
                     break;
@@ -118,7 +124,7 @@ impl Shrinking<'_> {
             while at < entries[i].len() {
                 let mut other = entries.clone();
                 other[i].remove(at);
-                if self.with(which, list(&other)) {
+                if self.with(argument, list(&other)) {
                     entries = other;
                     smaller = true;
                 } else {

@@ -19,6 +19,8 @@ pub struct Tally {
     /// With a width, by its kind, and without; and of the widths, those that an operator of an entry settled.
     widths: [u64; 3],
     inner_widths: u64,
+    /// Those with rows, by whether globals, locals or both are marked.
+    marked: [u64; 3],
     /// Calls that those followed, and how deep.
     followed: u64,
     deepest: u32,
@@ -42,6 +44,11 @@ impl Tally {
             let kind = outcome.values[kind].unwrap_or(NO_WIDTH) as usize;
             self.widths[kind] += 1;
             self.inner_widths += u64::from(met.inner_width);
+            if call.operation.takes_rows() {
+                let (globals, locals) = (met.globals > 0, met.calls > met.globals);
+                let marked = [globals, locals, globals && locals].map(u64::from);
+                self.marked.iter_mut().zip(marked).for_each(|(all, one)| *all += one);
+            }
         }
     }
 
@@ -61,6 +68,7 @@ impl Tally {
         self.masked += other.masked;
         self.widths.iter_mut().zip(other.widths).for_each(|(ours, theirs)| *ours += theirs);
         self.inner_widths += other.inner_widths;
+        self.marked.iter_mut().zip(other.marked).for_each(|(ours, theirs)| *ours += theirs);
         self.followed += other.followed;
         self.deepest = self.deepest.max(other.deepest);
     }
@@ -92,6 +100,12 @@ impl Tally {
                 self.inner_widths
             );
         }
+        let [globals, locals, both] = self.marked;
+        if globals + locals > 0 {
+            println!(
+                "  accepted with rows: {globals} with a global marked, {locals} with a local, {both} with both"
+            );
+        }
         println!(
             "  {} calls also held against the Rust; {} by the rule alone",
             self.rust,
@@ -117,6 +131,9 @@ impl Tally {
             );
         }
         lacks.extend(self.lacking_widths(least(&flatten::OPERATION)));
+        if self.marked.contains(&0) {
+            lacks.push("no rows had a global marked, a local, or both".into());
+        }
         lacks
     }
 

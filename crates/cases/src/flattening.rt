@@ -8,41 +8,135 @@ use crate::arguments::shaped;
 use crate::arguments::word_at;
 use crate::indexes::entry_of;
 use crate::line::Line;
+use crate::room::copy;
+use crate::room::differ;
 use crate::room::fill;
 use font::FontFlattened;
 use index::Flaw;
 use number::Operand;
 use reading::Advance;
 use reading::Flattened;
+use reading::FlattenedMarked;
 use reading::Profile;
 use reading::Stopped;
+
+// What 8, 32 and 33 begin with: the numbers, and where the lists stand and what follows them.
+struct Asked {
+    strict: bool,
+    budget: u32,
+    room: usize,
+    globals: usize,
+    locals: usize,
+    behind: usize,
+}
+
+enum Given {
+    Asked(Asked),
+    Neither,
+}
+
+// Where the charstring stands.
+const STRING: usize = 9;
 
 // 8: profile, budget, room, charstring, globals, locals. 33: the same of a `whole` font, with its
 // CharStrings INDEX in the charstring's place.
 pub(crate) fn flatten(args: &[u8], whole: bool, room: &mut [u8]) -> Line {
-    if !shaped(args, 9, 3) {
-        return Line::unasked();
-    }
-    let Flag::Is(strict) = flag_at(args, 0) else {
+    let Given::Asked(asked) = numbers_and_places(args, 3) else {
         return Line::unasked();
     };
-    let size = word_at(args, 5) as usize;
+    let size = asked.room;
     if room.len() < size {
         return Line::unasked();
     }
     let lent = &mut room[0..size];
     fill(lent);
-    let budget = word_at(args, 1);
-    let second = past_bytes(args, 9);
-    let strings = bytes_at(args, 9);
-    let globals = bytes_at(args, second);
-    let locals = bytes_at(args, past_bytes(args, second));
+    let strings = bytes_at(args, STRING);
+    let globals = bytes_at(args, asked.globals);
+    let locals = bytes_at(args, asked.locals);
+    let profile = profile(asked.strict);
     if whole {
-        let answer = font::flatten_font(strings, globals, locals, profile(strict), budget, lent);
+        let answer = font::flatten_font(strings, globals, locals, profile, asked.budget, lent);
         return font_flattened(answer, lent);
     }
-    let answer = charstring::flatten(strings, globals, locals, profile(strict), budget, lent);
+    let answer = charstring::flatten(strings, globals, locals, profile, asked.budget, lent);
     flattened(answer, lent)
+}
+
+// 32: those of 8, and then the globals' row and the locals' as lent. A row is copied to the slice lent
+// for it, and one that is longer asks for nothing.
+pub(crate) fn flatten_marked(
+    args: &[u8],
+    room: &mut [u8],
+    globals_row: &mut [u8],
+    locals_row: &mut [u8],
+) -> Line {
+    let Given::Asked(asked) = numbers_and_places(args, 5) else {
+        return Line::unasked();
+    };
+    let first = bytes_at(args, asked.behind);
+    let second = bytes_at(args, past_bytes(args, asked.behind));
+    let size = asked.room;
+    if room.len() < size {
+        return Line::unasked();
+    }
+    if globals_row.len() < first.len() {
+        return Line::unasked();
+    }
+    if locals_row.len() < second.len() {
+        return Line::unasked();
+    }
+    let lent = &mut room[0..size];
+    let globals = &mut globals_row[0..first.len()];
+    let locals = &mut locals_row[0..second.len()];
+    fill(lent);
+    copy(first, globals);
+    copy(second, locals);
+    let answer = mark(args, asked, lent, globals, locals);
+    if answer.number() == 0 {
+        return marked(answer, lent).shows_rows(first.len(), second.len());
+    }
+    marked(answer, lent)
+        .marks(differ(first, globals))
+        .marks(differ(second, locals))
+}
+
+fn mark(
+    args: &[u8],
+    asked: Asked,
+    room: &mut [u8],
+    globals_row: &mut [u8],
+    locals_row: &mut [u8],
+) -> FlattenedMarked {
+    charstring::flatten_marked(
+        bytes_at(args, STRING),
+        bytes_at(args, asked.globals),
+        bytes_at(args, asked.locals),
+        profile(asked.strict),
+        asked.budget,
+        room,
+        globals_row,
+        locals_row,
+    )
+}
+
+// What is asked, where the arguments are the numbers and so many `bytes`.
+fn numbers_and_places(args: &[u8], count: usize) -> Given {
+    if !shaped(args, STRING, count) {
+        return Given::Neither;
+    }
+    let Flag::Is(strict) = flag_at(args, 0) else {
+        return Given::Neither;
+    };
+    let globals = past_bytes(args, STRING);
+    let locals = past_bytes(args, globals);
+    Given::Asked(Asked {
+        strict: strict,
+        budget: word_at(args, 1),
+        room: word_at(args, 5) as usize,
+        globals: globals,
+        locals: locals,
+        behind: past_bytes(args, locals),
+    })
 }
 
 fn profile(strict: bool) -> Profile {
@@ -63,6 +157,14 @@ fn flattened(answer: Flattened, room: &[u8]) -> Line {
         Flattened::BadLocals(flaw) => flawed(flaw, line).keeps(room),
         Flattened::Refused(why) => stopped(why, line).keeps(room),
         Flattened::NoRoom(n, tokens) => line.value(n as u64).value(tokens as u64).keeps(room),
+    }
+}
+
+// As 8; `43`.
+fn marked(answer: FlattenedMarked, room: &[u8]) -> Line {
+    match answer {
+        FlattenedMarked::As(flat) => flattened(flat, room),
+        FlattenedMarked::ShortRow => Line::of(answer.number()).keeps(room),
     }
 }
 

@@ -1,5 +1,5 @@
 // A line as an operation makes it: the answer's number and the values, and what follows of the
-// room. A struct by value, so that an operation has nothing to do with output.
+// room and of the rows. A struct by value, so that an operation has nothing to do with output.
 use crate::arguments::first;
 use crate::room::changed;
 
@@ -10,7 +10,11 @@ pub(crate) struct Line {
     // Whether the first `shown` bytes of the room follow.
     pub(crate) hex: bool,
     pub(crate) shown: usize,
-    // Whether a byte of the room that is not reported was changed, or an answer contradicts itself.
+    // Whether the rows follow, so many bytes of the globals' and of the locals'.
+    pub(crate) rows: bool,
+    pub(crate) globals: usize,
+    pub(crate) locals: usize,
+    // Whether a byte that is not reported was changed, or an answer contradicts itself.
     pub(crate) marked: bool,
 }
 
@@ -64,9 +68,19 @@ impl Line {
         self
     }
 
-    // The answer contradicts itself, if `wrong`.
+    // The answer leaves rows of so many bytes.
+    pub(crate) fn shows_rows(mut self, globals: usize, locals: usize) -> Self {
+        self.rows = true;
+        self.globals = globals;
+        self.locals = locals;
+        self
+    }
+
+    // A byte that is not reported was changed, or the answer contradicts itself, if `wrong`.
     pub(crate) fn marks(mut self, wrong: bool) -> Self {
-        self.marked = wrong;
+        if wrong {
+            self.marked = true;
+        }
         self
     }
 
@@ -77,6 +91,9 @@ impl Line {
             length: 0,
             hex: false,
             shown: 0,
+            rows: false,
+            globals: 0,
+            locals: 0,
             marked: false,
         }
     }

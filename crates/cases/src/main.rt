@@ -1,8 +1,8 @@
 // The public functions on any bytes: one record in from standard input, one line out to standard
 // output. A record is a 4-byte length N and N bytes, the operation and its arguments; `answer` has
 // the operations. `?` is the line of a record that asks for nothing: its arguments do not fill it,
-// its operation is unknown, a kind or a profile is neither 0 nor 1, or it or its room is over the
-// limit. Input that ends inside a record gives `?` and the end.
+// its operation is unknown, a kind or a profile is neither 0 nor 1, or it, its room or a row is over
+// the limit. Input that ends inside a record gives `?` and the end.
 mod arguments;
 mod flattening;
 mod indexes;
@@ -20,15 +20,24 @@ use crate::output::write_line;
 ghost use mathlib.Core.Path.{_≡_};
 ghost use lib.ListN.{length};
 
-// The limits of a record's N and of a room are the lengths of the first two, and no record has room
-// for more lengths than the third holds. They stand on the stack, which has to hold some 3.3 million
-// bytes.
+// The limits of a record's N, of a room and of a row are the lengths of these, and no record has room
+// for more lengths than there are places. A row of 65,535 entries takes 8,192 bytes, so one may have as
+// many behind it. They stand on the stack, which has to hold some 3.3 million bytes.
 fn main() {
     let mut buffer = mebibyte();
     let mut room = mebibyte();
     let mut lengths = mebibyte_of_words();
+    let mut globals_row = longest_row();
+    let mut locals_row = longest_row();
     let mut text = io::large_buffer();
-    answer_all(&mut buffer, &mut lengths, &mut room, &mut text);
+    answer_all(
+        &mut buffer,
+        &mut lengths,
+        &mut room,
+        &mut globals_row,
+        &mut locals_row,
+        &mut text,
+    );
 }
 
 // 1,048,576 zeros. The `ensures` gives only the length, which lending the array as a slice needs.
@@ -45,33 +54,61 @@ fn mebibyte_of_words() -> [u32; 262144]
     [0; 262144]
 }
 
+// 16,384 zeros, likewise.
+fn longest_row() -> [u8; 16384]
+    ensures { λ r. ⌜ 16384 ≡ length r ⌝ }
+{
+    [0; 16384]
+}
+
 // A proved loop has to end, and nothing says that the input does. So the records are counted down,
 // from a number that no input uses up.
-fn answer_all(buffer: &mut [u8], lengths: &mut [u32], room: &mut [u8], text: &mut [u8]) {
+fn answer_all(
+    buffer: &mut [u8],
+    lengths: &mut [u32],
+    room: &mut [u8],
+    globals_row: &mut [u8],
+    locals_row: &mut [u8],
+    text: &mut [u8],
+) {
     let mut records = u64::MAX;
-    while records > 0 && answer_next(buffer, lengths, room, text) {
+    while records > 0 && answer_next(buffer, lengths, room, globals_row, locals_row, text) {
         records -= 1;
     }
 }
 
 // Reads a record, writes its line, and answers whether to go on: not where the input ended, nor
 // where the line did not go out.
-fn answer_next(buffer: &mut [u8], lengths: &mut [u32], room: &mut [u8], text: &mut [u8]) -> bool {
+fn answer_next(
+    buffer: &mut [u8],
+    lengths: &mut [u32],
+    room: &mut [u8],
+    globals_row: &mut [u8],
+    locals_row: &mut [u8],
+    text: &mut [u8],
+) -> bool {
     match next_record(buffer) {
         Next::Record(n) => {
-            let line = answer(first(n, buffer), lengths, room);
-            write_line(line, room, text)
+            let line = answer(first(n, buffer), lengths, room, globals_row, locals_row);
+            write_line(line, room, globals_row, locals_row, text)
         }
         Next::Broken => {
-            write_line(Line::unasked(), room, text);
+            write_line(Line::unasked(), room, globals_row, locals_row, text);
             false
         }
         Next::End => false,
     }
 }
 
-// The line of a record. What an operation takes as lengths is gathered in the slice lent for it.
-fn answer(asked: &[u8], lengths: &mut [u32], room: &mut [u8]) -> Line {
+// The line of a record. What an operation takes as lengths or as rows is gathered in the slices lent
+// for it.
+fn answer(
+    asked: &[u8],
+    lengths: &mut [u32],
+    room: &mut [u8],
+    globals_row: &mut [u8],
+    locals_row: &mut [u8],
+) -> Line {
     if asked.len() == 0 {
         return Line::unasked();
     }
@@ -90,6 +127,7 @@ fn answer(asked: &[u8], lengths: &mut [u32], room: &mut [u8]) -> Line {
         10 => numbers::callee(args),
         11 => indexes::check_list(args),
         12 => indexes::read_entry_by_view(args, room),
+        32 => flattening::flatten_marked(args, room, globals_row, locals_row),
         33 => flattening::flatten(args, true, room),
         _ => Line::unasked(),
     }

@@ -5,12 +5,21 @@ use crate::arguments::first;
 use crate::line::Line;
 use libc::STDOUT_FILENO;
 
-// Writes a line, over the room that its operation was lent, and answers whether it went out.
-pub(crate) fn write_line(line: Line, room: &[u8], buffer: &mut [u8]) -> bool {
+// Writes a line, over the room and the rows that its operation was lent, and answers whether it went
+// out.
+pub(crate) fn write_line(
+    line: Line,
+    room: &[u8],
+    globals_row: &[u8],
+    locals_row: &[u8],
+    buffer: &mut [u8],
+) -> bool {
     let text = line.text;
     let at = put_all(0, first(line.length, &text), buffer);
     let shown = put_shown(at, line.hex, first(line.shown, room), buffer);
-    let marked = put_mark(shown, line.marked, buffer);
+    let globals = put_shown(shown, line.rows, first(line.globals, globals_row), buffer);
+    let locals = put_shown(globals, line.rows, first(line.locals, locals_row), buffer);
+    let marked = put_mark(locals, line.marked, buffer);
     flush(put(marked, b'\n', buffer), buffer)
 }
 

@@ -173,7 +173,7 @@ fn numbers() -> Vec<Given> {
 }
 
 /// A list of so many entries, each calling the next, the last with a path of its own.
-fn chain(entries: u8, call: u8) -> Vec<u8> {
+pub(super) fn chain(entries: u8, call: u8) -> Vec<u8> {
     let mut chain: Vec<Vec<u8>> = (1..entries).map(|i| vec![FIRST + i, call, 0x0B]).collect();
     chain.push(vec![0x8C, 0x8D, 0x15, 0x0B]);
     list(&chain)

@@ -4,6 +4,7 @@ use super::case::{list, Case, Given, FIRST, GLOBAL, L, LOCAL, NONE, PLAIN, SECON
 use super::index::rows as strings;
 use super::{edges, widths};
 use std::collections::HashSet;
+use std::hash::Hash;
 
 /// Those of the list, each once.
 pub fn listed() -> Vec<Given> {
@@ -13,7 +14,7 @@ pub fn listed() -> Vec<Given> {
     each_once(asked)
 }
 
-pub(super) fn each_once(mut asked: Vec<Given>) -> Vec<Given> {
+pub(super) fn each_once<T: Clone + Eq + Hash>(mut asked: Vec<T>) -> Vec<T> {
     let mut seen = HashSet::new();
     asked.retain(|given| seen.insert(given.clone()));
     asked

@@ -7,6 +7,7 @@ pub mod flattening;
 pub mod font;
 pub mod index;
 mod loose;
+pub mod marking;
 pub mod number;
 mod structured;
 mod widths;

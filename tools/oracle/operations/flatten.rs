@@ -1,6 +1,7 @@
 //! Flattening: 8. The Rust has a word in the plain profile, where both lists are well formed and the answer is not 3, 8 or 11:
 //! the bytes of an accepted one, `CFFError` for 4, 5, 6, 7, 9 and 10, and `Unimplemented` for 12. It is asked once the rule's
-//! run has ended, so that it ends too. Tokens, the width, room, and what is wrong with a list are the rule's alone.
+//! run has ended, so that it ends too. Tokens, the width, room, and what is wrong with a list are the rule's alone. What must come
+//! where rows are lent, in 32, stands here too.
 
 use super::check_list::check;
 use super::write_charstring_number::rooms;
@@ -13,8 +14,9 @@ use crate::operation::{library, Argument, Call, Fault, Found, Lent, Must, Next, 
 use crate::operation::{Outcome, Owed, Place, BARE, NO_WIDTH};
 use crate::random::Random;
 use crate::record::MOST;
-use crate::rules::flattening::{Lists, Rules, Verdict, Width, RULES};
+use crate::rules::flattening::{Judged, Lists, Rules, Verdict, Width, RULES};
 use crate::rules::index::{formed, Flaw};
+use crate::rules::marking::{row, row_size, Entered};
 use crate::rules::number::Operand;
 use crate::kept::Kept;
 use std::borrow::Cow;
@@ -23,14 +25,14 @@ use subsetter::Error;
 /// A budget beyond which no random run is followed.
 const AMPLE: u32 = 20_000;
 
-const LENGTH: u8 = 0b1;
-const TOKENS: u8 = 0b10;
-const ENTRY: u8 = 0b100;
-const REASON: u8 = 0b1000;
+pub const LENGTH: u8 = 0b1;
+pub const TOKENS: u8 = 0b10;
+pub const ENTRY: u8 = 0b100;
+pub const REASON: u8 = 0b1000;
 const WIDTH_KIND: u8 = 1 << KIND_PLACE;
-const WIDTH: u8 = 1 << WIDTH_PLACE;
+pub const WIDTH: u8 = 1 << WIDTH_PLACE;
 /// What a charstring gives that says no width.
-const FLAT: u8 = LENGTH | TOKENS | WIDTH_KIND;
+pub const FLAT: u8 = LENGTH | TOKENS | WIDTH_KIND;
 
 pub const KIND_PLACE: usize = 4;
 pub const WIDTH_PLACE: usize = 5;
@@ -168,7 +170,7 @@ pub fn asked(operation: &'static Operation, given: Given) -> Call<'static> {
 }
 
 /// A charstring that mostly runs to its end, a looser one, or one of either with bytes hurt.
-fn any(operation: &'static Operation, random: &mut Random) -> Call<'static> {
+pub fn any(operation: &'static Operation, random: &mut Random) -> Call<'static> {
     let mut case = if random.once_in(8) { loose(random) } else { structured(random) };
     if random.once_in(5) {
         case = damaged(case, random);
@@ -178,15 +180,19 @@ fn any(operation: &'static Operation, random: &mut Random) -> Call<'static> {
     asked(operation, case.asked(random.within(0, 1) as u32, budget, room as usize))
 }
 
-fn owed(call: &Call) -> Result<Owed, String> {
+pub fn owed(call: &Call) -> Result<Owed, String> {
     let [charstring, globals, locals] = call.slices.each_ref().map(|slice| &slice[..]);
     Kept::with([globals, locals], |kept| {
         let lists = match Lists::known(globals, locals, kept.formed) {
             Ok(lists) => lists,
             Err(bad) => return Ok(Owed::by_rule(bad_list(call.operation, bad))),
         };
-        let (verdict, met) = lists.flattened(charstring, call.strict(), call.budget);
-        let outcome = told(call, &verdict);
+        if lacks_row(call, lists) {
+            return Ok(Owed::by_rule(Outcome::refused(43)));
+        }
+        let Judged { verdict, met, entered } =
+            lists.flattened(charstring, call.strict(), call.budget);
+        let outcome = with_rows(told(call, &verdict), call, lists, &entered);
         let owed = match by_rust(&verdict).filter(|_| !call.strict()) {
             Some(rule) => Owed::by_both(outcome, rule, kept.source().flattened(charstring)),
             None => Ok(Owed::by_rule(outcome)),
@@ -220,6 +226,22 @@ fn with_width(mut told: Outcome, width: Width) -> Outcome {
     told
 }
 
+/// Whether a row that is lent is too short for its list.
+fn lacks_row(call: &Call, lists: Lists) -> bool {
+    let short = |(row, count): (&Cow<[u8]>, u32)| row.len() < row_size(count);
+    call.operation.takes_rows() && call.rows.iter().zip(lists.counts()).any(short)
+}
+
+/// With the rows that are left, where some are lent and the call is accepted.
+fn with_rows(told: Outcome, call: &Call, lists: Lists, entered: &Entered) -> Outcome {
+    if told.answer != 0 || !call.operation.takes_rows() {
+        return told;
+    }
+    let counts = lists.counts();
+    let rows = [0, 1].map(|i| row(counts[i], &entered[i], &call.rows[i]));
+    Outcome { rows, ..told }
+}
+
 /// The refusal of a run, with its tokens where it tells them.
 fn stopped(refusal: u32, tokens: u32) -> Outcome {
     let mut told = Outcome::refused(refusal);
@@ -229,15 +251,18 @@ fn stopped(refusal: u32, tokens: u32) -> Outcome {
 
 /// What must come by these rules.
 pub fn ruled(call: &Call, rules: Rules) -> Outcome {
-    told(call, &verdict(call, rules))
+    match judged(call, rules) {
+        Ok((lists, _)) if lacks_row(call, lists) => Outcome::refused(43),
+        Ok((lists, judged)) => with_rows(told(call, &judged.verdict), call, lists, &judged.entered),
+        Err(bad) => bad_list(call.operation, bad),
+    }
 }
 
-fn verdict(call: &Call, rules: Rules) -> Verdict {
+/// The lists and the verdict on the run, where both lists are well formed.
+pub fn judged<'a>(call: &'a Call, rules: Rules) -> Result<(Lists<'a>, Judged), (u32, Flaw)> {
     let [charstring, globals, locals] = call.slices.each_ref().map(|slice| &slice[..]);
-    match Lists::known(globals, locals, [globals, locals].map(formed)) {
-        Ok(lists) => lists.by(rules).flattened(charstring, call.strict(), call.budget).0,
-        Err((refusal, flaw)) => Verdict::BadList(refusal, flaw),
-    }
+    let lists = Lists::known(globals, locals, [globals, locals].map(formed))?.by(rules);
+    Ok((lists, lists.flattened(charstring, call.strict(), call.budget)))
 }
 
 /// The refusal of a list: why, at the place for reasons, and the entry at the place before it.
@@ -268,7 +293,7 @@ pub fn error(refusal: u32) -> Option<Error> {
     }
 }
 
-fn next<'a>(call: &'a Call<'a>, outcome: &'a Outcome) -> Vec<Next<'a>> {
+pub fn next<'a>(call: &'a Call<'a>, outcome: &'a Outcome) -> Vec<Next<'a>> {
     let mut next = rooms(call, outcome);
     next.extend(no_room(call, outcome));
     next.extend(budgets(call, outcome));
@@ -327,7 +352,7 @@ fn budgets<'a>(call: &'a Call<'a>, outcome: &'a Outcome) -> Vec<Next<'a>> {
 fn tokens(call: &Call, outcome: &Outcome) -> Option<u32> {
     match outcome.answer {
         3 => None,
-        15 | 16 => Some(verdict(call, RULES).tokens()),
+        15 | 16 => judged(call, RULES).ok().map(|(_, judged)| judged.verdict.tokens()),
         _ => outcome.values[1].map(|tokens| tokens as u32),
     }
 }
@@ -406,8 +431,8 @@ fn exchange(lent: &Lent) {
 }
 
 fn by_last_byte(call: &Call, lent: &Lent) -> u32 {
-    match verdict(call, ANY_END) {
-        Verdict::Flat(flat, ..) if flat.last() == Some(&14) => tell_ruled(call, lent, ANY_END),
+    match judged(call, ANY_END).map(|(_, judged)| judged.verdict) {
+        Ok(Verdict::Flat(flat, ..)) if flat.last() == Some(&14) => tell_ruled(call, lent, ANY_END),
         _ => library(call, lent),
     }
 }

@@ -23,4 +23,5 @@ operations! {
     entry_by_view
     flatten
     flatten_font
+    flatten_marked
 }

@@ -2,6 +2,7 @@
 //! of items, and joins them at the end. Nothing here asks the Rust.
 
 use super::index::{self as indexes, Flaw};
+use super::marking::Entered;
 use super::number::{self as numbers, Operand, Place};
 
 /// A refusal's number.
@@ -60,12 +61,20 @@ struct Item<'a> {
 /// A flat string that is not joined, so that one of any length can be told.
 pub struct Flat<'a>(Vec<Item<'a>>);
 
-/// The run's first refusal or the flat string, the tokens begun, the width so far, and what the run met.
+/// The run's first refusal or the flat string, the tokens begun, the width so far, what the run met, and the entries that it marks.
 pub struct Ran<'a> {
     pub flat: Result<Flat<'a>, Refusal>,
     pub tokens: u32,
     pub width: Width,
     pub met: Met,
+    pub entered: Entered,
+}
+
+/// The verdict on a run, what it met, and the entries that it marks.
+pub struct Judged {
+    pub verdict: Verdict,
+    pub met: Met,
+    pub entered: Entered,
 }
 
 /// What decides about the operands that wait where a run comes to a mask.
@@ -138,6 +147,19 @@ pub struct AtOperator<'s> {
     pub depth: u32,
 }
 
+/// What decides about a mark where a run enters an entry.
+#[derive(Clone, Copy)]
+pub struct AtEntry {
+    pub global: bool,
+    pub number: u32,
+    /// Of the entry, so 2 where the charstring itself calls it.
+    pub depth: u32,
+    /// Whether a global calls it.
+    pub by_global: bool,
+    /// How many calls were entered before.
+    pub before: u64,
+}
+
 /// The rules that planted faults have others for.
 #[derive(Clone, Copy)]
 pub struct Rules {
@@ -145,9 +167,11 @@ pub struct Rules {
     pub at_end: fn(AtEnd) -> Ending,
     /// The width that an operator settles; `None` where it settles nothing.
     pub at_operator: fn(AtOperator) -> Option<Width>,
+    /// Whether an entry is marked.
+    pub at_entry: fn(AtEntry) -> bool,
 }
 
-pub const RULES: Rules = Rules { at_mask, at_end, at_operator };
+pub const RULES: Rules = Rules { at_mask, at_end, at_operator, at_entry: |_| true };
 
 /// The operators that may have a width below their operands, and of how many operands one is that.
 const WITH_WIDTH: [(&[u8], fn(usize) -> bool); 4] = [
@@ -202,11 +226,12 @@ pub struct Lists<'a> {
     rules: Rules,
 }
 
-/// What a run met: calls that it entered, those of them by a Fixed, and of these the nearly whole; masks; the depth; whether an
-/// operator of an entry settled the width.
+/// What a run met: calls that it entered, those of globals, those by a Fixed, and of these the nearly whole; masks; the depth; whether
+/// an operator of an entry settled the width.
 #[derive(Clone, Copy, Debug, Default)]
 pub struct Met {
     pub calls: u64,
+    pub globals: u64,
     pub fixed: u64,
     pub nearly: u64,
     pub masks: u64,
@@ -227,13 +252,16 @@ struct Run<'a> {
     /// The width, once an operator has settled it.
     width: Option<Width>,
     met: Met,
+    entered: Entered,
+    /// Whether the string that is run is a global's.
+    in_global: bool,
 }
 
 /// 1, 2, then the run's first refusal; 16 is that of its end.
 pub fn flattened(asked: &Asked) -> Verdict {
     let formed = [asked.globals, asked.locals].map(indexes::formed);
     match Lists::known(asked.globals, asked.locals, formed) {
-        Ok(lists) => lists.flattened(asked.charstring, asked.strict, asked.budget).0,
+        Ok(lists) => lists.flattened(asked.charstring, asked.strict, asked.budget).verdict,
         Err((refusal, flaw)) => Verdict::BadList(refusal, flaw),
     }
 }
@@ -269,13 +297,18 @@ impl<'a> Lists<'a> {
         Lists { rules, ..self }
     }
 
-    pub fn flattened(self, charstring: &'a [u8], strict: bool, budget: u32) -> (Verdict, Met) {
+    /// How many entries each has.
+    pub fn counts(self) -> [u32; 2] {
+        [self.globals.count, self.locals.count]
+    }
+
+    pub fn flattened(self, charstring: &'a [u8], strict: bool, budget: u32) -> Judged {
         let ran = self.run(charstring, strict, budget);
         let verdict = match ran.flat {
             Ok(flat) => Verdict::Flat(flat.joined(), ran.tokens, ran.width),
             Err(refusal) => Verdict::Stopped(refusal, ran.tokens),
         };
-        (verdict, ran.met)
+        Judged { verdict, met: ran.met, entered: ran.entered }
     }
 
     pub fn run(self, charstring: &'a [u8], strict: bool, budget: u32) -> Ran<'a> {
@@ -290,15 +323,19 @@ impl<'a> Lists<'a> {
             mask_length: 0,
             width: None,
             met: Met::default(),
+            entered: Entered::default(),
+            in_global: false,
         };
         let flat = run.string(charstring, 1).map(|_| Flat(run.flat));
-        Ran { flat, tokens: run.tokens, width: run.width.flatten(), met: run.met }
+        let Run { tokens, width, met, entered, .. } = run;
+        Ran { flat, tokens, width: width.flatten(), met, entered }
     }
 }
 
 impl Met {
-    fn call(&mut self, operand: Operand, depth: u32) {
+    fn call(&mut self, global: bool, operand: Operand, depth: u32) {
         self.calls += 1;
+        self.globals += u64::from(global);
         self.deepest = self.deepest.max(depth);
         if let Operand::Fixed(n) = operand {
             self.fixed += 1;
@@ -449,9 +486,21 @@ impl<'a> Run<'a> {
         if self.flat.pop().is_none_or(|last| last.token != token) {
             return Err(8);
         }
-        self.met.call(operand, depth + 1);
+        self.enter(global, callee, depth + 1);
+        self.met.call(global, operand, depth + 1);
         let entry = indexes::entry(list.bytes, callee).expect("the list is well formed");
-        self.string(&list.bytes[entry.place..entry.place + entry.length], depth + 1)
+        let caller = std::mem::replace(&mut self.in_global, global);
+        let ending = self.string(&list.bytes[entry.place..entry.place + entry.length], depth + 1);
+        self.in_global = caller;
+        ending
+    }
+
+    /// Marks an entry that is entered.
+    fn enter(&mut self, global: bool, number: u32, depth: u32) {
+        let (by_global, before) = (self.in_global, self.met.calls);
+        if (self.lists.rules.at_entry)(AtEntry { global, number, depth, by_global, before }) {
+            self.entered[usize::from(!global)].insert(number);
+        }
     }
 
     fn end_char(&mut self) -> Result<(), Refusal> {

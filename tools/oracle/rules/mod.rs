@@ -3,4 +3,5 @@
 pub mod flattening;
 pub mod font;
 pub mod index;
+pub mod marking;
 pub mod number;

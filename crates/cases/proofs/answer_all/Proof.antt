@@ -1,4 +1,4 @@
--- `cases::answer_all` is safe and ends. The measure is the count of records that are left; the four slices keep their lengths. Assumes nothing.
+-- `cases::answer_all` is safe and ends. The measure is the count of records that are left; the six slices keep their lengths. Assumes nothing.
 use mathlib.Core.Path.{_≡_}
 use lib.ListN.{length}
 use borrow.Author.Needs.{needs}
@@ -6,11 +6,12 @@ use Rattle.cases.proofs.answer_all.Statement.{statement}
 use Rattle.cases.proofs.answer_all.Tie as tie
 
 abbrev Inv-loop : tie.InvT-loop
-Inv-loop buffer₀ lengths₀ room₀ text₀ records₀ buffer lengths room text records =
-    (length buffer ≡ length buffer₀) × (length lengths ≡ length lengths₀) × (length room ≡ length room₀) × (length text ≡ length text₀)
+Inv-loop buffer₀ lengths₀ room₀ globals-row₀ locals-row₀ text₀ records₀ buffer lengths room globals-row locals-row text records =
+    (length buffer ≡ length buffer₀) × (length lengths ≡ length lengths₀) × (length room ≡ length room₀)
+    × (length globals-row ≡ length globals-row₀) × (length locals-row ≡ length locals-row₀) × (length text ≡ length text₀)
 
 abbrev μ-loop : tie.MeasureT-loop
-μ-loop buffer₀ lengths₀ room₀ text₀ records₀ buffer lengths room text records = records
+μ-loop buffer₀ lengths₀ room₀ globals-row₀ locals-row₀ text₀ records₀ buffer lengths room globals-row locals-row text records = records
 
 loop-holds : tie.Need-loop-holds Inv-loop μ-loop
 loop-holds c = search needs
@@ -39,20 +40,32 @@ same-length-3 c = search needs
 same-length-4 : tie.Need-same-length-4 Inv-loop μ-loop
 same-length-4 c = search needs
 
-returns : tie.Need-returns Inv-loop μ-loop
-returns c = search needs
-
 same-length-5 : tie.Need-same-length-5 Inv-loop μ-loop
 same-length-5 c = search needs
 
 same-length-6 : tie.Need-same-length-6 Inv-loop μ-loop
 same-length-6 c = search needs
 
+returns : tie.Need-returns Inv-loop μ-loop
+returns c = search needs
+
 same-length-7 : tie.Need-same-length-7 Inv-loop μ-loop
 same-length-7 c = search needs
 
 same-length-8 : tie.Need-same-length-8 Inv-loop μ-loop
 same-length-8 c = search needs
+
+same-length-9 : tie.Need-same-length-9 Inv-loop μ-loop
+same-length-9 c = search needs
+
+same-length-10 : tie.Need-same-length-10 Inv-loop μ-loop
+same-length-10 c = search needs
+
+same-length-11 : tie.Need-same-length-11 Inv-loop μ-loop
+same-length-11 c = search needs
+
+same-length-12 : tie.Need-same-length-12 Inv-loop μ-loop
+same-length-12 c = search needs
 
 returns-2 : tie.Need-returns-2 Inv-loop μ-loop
 returns-2 c = search needs
@@ -72,9 +85,13 @@ answer-all-spec =
     same-length-2
     same-length-3
     same-length-4
-    returns
     same-length-5
     same-length-6
+    returns
     same-length-7
     same-length-8
+    same-length-9
+    same-length-10
+    same-length-11
+    same-length-12
     returns-2)
