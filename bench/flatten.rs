@@ -14,7 +14,7 @@ mod timing;
 use folders::fonts_asked_for;
 use lists::Lists;
 use oracle::fonts::{Font, Glyph};
-use ours::ours;
+use ours::{ours, ours_with_rows};
 use std::hint::black_box;
 use std::process::ExitCode;
 use timing::best_of;
@@ -29,6 +29,9 @@ const MOST_GLYPHS: usize = 2000;
 /// More than any glyph of a font needs.
 const AMPLE: u32 = 10_000_000;
 const ROOM: usize = 1 << 20;
+
+/// What the row of 65,535 entries takes.
+const LONGEST_ROW: usize = 8192;
 
 const INTRODUCTION: &str = "\
 Best of 25 passes, five at a time, the two sides in turns; nanoseconds. The room that is lent to ours is one buffer, cleared once; the Rust allocates its own.
@@ -56,6 +59,7 @@ struct Times {
     check: f64,
     rust: f64,
     hand: f64,
+    marked: f64,
 }
 
 impl Times {
@@ -66,6 +70,7 @@ impl Times {
             check: self.check.min(other.check),
             rust: self.rust.min(other.rust),
             hand: self.hand.min(other.hand),
+            marked: self.marked.min(other.marked),
             ..other
         }
     }
@@ -77,13 +82,14 @@ impl Times {
         self.check += other.check;
         self.rust += other.rust;
         self.hand += other.hand;
+        self.marked += other.marked;
     }
 
     fn row(&self, name: &str) {
         let each = |time: f64| time / self.glyphs as f64;
         let ours = self.whole - self.check;
         println!(
-            "| {name} | {} | {} | {:.0} | {:.0} | {:.2} | {:.2} | {:.2} | {:.0} | {:.0} | {:.2} |",
+            "| {name} | {} | {} | {:.0} | {:.0} | {:.2} | {:.2} | {:.2} | {:.0} | {:.0} | {:.2} | {:.0} |",
             self.glyphs,
             self.tokens,
             each(ours),
@@ -94,13 +100,14 @@ impl Times {
             each(self.check),
             each(self.whole),
             self.rust / self.whole,
+            each(self.marked),
         );
     }
 }
 
 fn of_fonts(fonts: Vec<Font>) -> Result<(), String> {
-    println!("| font | glyphs | tokens | ours, a glyph | the Rust | the Rust / ours | ours, a token | by hand, a token | the check | ours with the check | the Rust / ours with the check |");
-    println!("|---|---|---|---|---|---|---|---|---|---|---|");
+    println!("| font | glyphs | tokens | ours, a glyph | the Rust | the Rust / ours | ours, a token | by hand, a token | the check | ours with the check | the Rust / ours with the check | ours with the check and rows |");
+    println!("|---|---|---|---|---|---|---|---|---|---|---|---|");
     let mut found: Vec<(Font, Option<Times>)> =
         fonts.into_iter().map(|font| (font, None)).collect();
     for _ in 0..ROUNDS {
@@ -147,13 +154,14 @@ fn of_font(font: &Font) -> Result<Times, String> {
         }
     }
     hand::agrees(&timed, &mut out).map_err(|e| format!("{}: {e}", font.name))?;
-    let [whole, check, rust, hand] = best_of_each(&timed, &lists, &mut out);
-    Ok(Times { glyphs: timed.len(), tokens, whole, check, rust, hand })
+    let [whole, check, rust, hand, marked] = best_of_each(&timed, &lists, &mut out);
+    Ok(Times { glyphs: timed.len(), tokens, whole, check, rust, hand, marked })
 }
 
-/// Ours, the check of the lists by itself, the Rust, and the loop by hand.
-fn best_of_each(timed: &[(Glyph, usize)], lists: &[(&[u8], Lists)], out: &mut [u8]) -> [f64; 4] {
-    let [mut spare, mut room] = [vec![0; ROOM], vec![0; ROOM]];
+/// Ours, the check of the lists by itself, the Rust, the loop by hand, and ours with rows.
+fn best_of_each(timed: &[(Glyph, usize)], lists: &[(&[u8], Lists)], out: &mut [u8]) -> [f64; 5] {
+    let [mut spare, mut room, mut marked] = [(); 3].map(|_| vec![0; ROOM]);
+    let mut rows = [(); 2].map(|_| vec![0; LONGEST_ROW]);
     best_of(
         PASSES,
         [
@@ -176,6 +184,11 @@ fn best_of_each(timed: &[(Glyph, usize)], lists: &[(&[u8], Lists)], out: &mut [u
             &mut || {
                 for (glyph, _) in timed {
                     black_box(hand::flatten(black_box(glyph), AMPLE, &mut room));
+                }
+            },
+            &mut || {
+                for (glyph, _) in timed {
+                    black_box(ours_with_rows(black_box(glyph), AMPLE, &mut marked, &mut rows));
                 }
             },
         ],

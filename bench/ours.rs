@@ -2,7 +2,7 @@
 
 use oracle::fonts::Glyph;
 use oracle::inputs::case::PLAIN;
-use oracle::library::{flatten_font_to, flatten_to, Places};
+use oracle::library::{flatten_font_to, flatten_marked_to, flatten_to, Places};
 
 /// What ours answers: the number, the length and the tokens.
 #[derive(Clone, Copy)]
@@ -16,6 +16,16 @@ pub fn ours(glyph: &Glyph, budget: u32, out: &mut [u8]) -> Answer {
     let Glyph { charstring, globals, locals } = *glyph;
     let mut places = Places::default();
     let number = flatten_to([charstring, globals, locals], PLAIN, budget, out, &mut places);
+    Answer { number, length: places.length, tokens: places.tokens }
+}
+
+/// The same with rows, the globals' and the locals'.
+pub fn ours_with_rows(glyph: &Glyph, budget: u32, out: &mut [u8], rows: &mut [Vec<u8>; 2]) -> Answer {
+    let Glyph { charstring, globals, locals } = *glyph;
+    let mut places = Places::default();
+    let rows = rows.each_mut().map(|row| &mut row[..]);
+    let slices = [charstring, globals, locals];
+    let number = flatten_marked_to(slices, PLAIN, budget, out, rows, &mut places);
     Answer { number, length: places.length, tokens: places.tokens }
 }
 

@@ -157,7 +157,8 @@ marked-undo (As r) = marked-as r ∙ ap As (flattened-undo r)
 marked-undo ShortRow = refl
 
 -- what is told of two results, and left by them, is one
-pub marked-once : (r r′ : FlattenedMarked) (l l′ : Lent) → asLent l (flattenedMarked r) ≡ asLent l′ (flattenedMarked r′) → (r ≡ r′) × (l ≡ l′)
+pub marked-once : (r r′ : FlattenedMarked) (l l′ : Lent) → asLent l (flattenedMarked r) ≡ asLent l′ (flattenedMarked r′)
+    → (r ≡ r′) × (l ≡ l′)
 marked-once r r′ l l′ e =
     (sym (marked-undo r) ∙ ap (λ (m : Marked). marked-of (m .answer)) e ∙ marked-undo r′, ap (λ (m : Marked). m .left) e)
 

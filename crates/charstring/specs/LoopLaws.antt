@@ -96,7 +96,8 @@ module _ (cs globals locals : List ℕ) (by : Limits) (levels : ℕ) (stack₀ o
     pub setting : Setting globals locals by stack
     pub sound : Sound by stack₀ out₀ marks₀ s₀
     pub stands : Each
-        (λ t. (j : ℕ) × (i ≤ j) × Here (around cs globals locals by levels t marks) stack out r j × CallsAt (meant (by .rules)) cs j (by .budget) r next w)
+        (λ t. (j : ℕ) × (i ≤ j) × Here (around cs globals locals by levels t marks) stack out r j
+        × CallsAt (meant (by .rules)) cs j (by .budget) r next w)
 
   pub before : (stack out marks : List ℕ) (s : State) (i : ℕ) → Turn stack out marks s i → (r : Stretched) (stack₁ out₁ : List ℕ)
       → StretchesTo cs by stack out s i r stack₁ out₁ → length stack₁ ≡ length stack → (next : ℕ) (w : Which) → r .stop ≡ Calling next w
@@ -204,13 +205,17 @@ module _ (cs globals locals : List ℕ) (by : Limits) (levels : ℕ) (stack₀ o
             subst (λ (l : List ℕ). Sound by stack out l s) (sym a)
             (_, inner (sound .0) (sound .1) (sound .2), inner-says (sound .0) (sound .1) (sound .2))
 
-        module _ (list : List ℕ) (its : list ≡ list-of) (marked : List ℕ) (is-marked : marked ≡ with-mark) (r₁ : Ran) (stack₁ out₁ marks₁ : List ℕ)
+        module _ (list : List ℕ) (its : list ≡ list-of) (marked : List ℕ) (is-marked : marked ≡ with-mark)
+            (r₁ : Ran) (stack₁ out₁ marks₁ : List ℕ)
             (ran : RunsTo (take (to - from) (drop from list)) globals locals by s stack out marked (levels - 1) r₁ stack₁ out₁ marks₁) where
           ran-there : RunsTo body-of globals locals by s stack out with-mark (levels - 1) r₁ stack₁ out₁ marks₁
           ran-there =
-              subst (λ (l : List ℕ). RunsTo (take (to - from) (drop from l)) globals locals by s stack out with-mark (levels - 1) r₁ stack₁ out₁ marks₁) its
+              subst
+              (λ (l : List ℕ). RunsTo (take (to - from) (drop from l)) globals locals by s stack out with-mark (levels - 1) r₁ stack₁ out₁ marks₁) its
               (subst
-              (λ (l : List ℕ). RunsTo (take (to - from) (drop from list)) globals locals by s stack out l (levels - 1) r₁ stack₁ out₁ marks₁) is-marked ran)
+              (λ (l : List ℕ). RunsTo (take (to - from) (drop from list)) globals locals by s stack out l (levels - 1)
+              r₁ stack₁ out₁ marks₁)
+              is-marked ran)
 
           pub arm-back : r₁ .how ≡ Back → Stands stack₁ out₁ marks₁ (r₁ .st) next
           unfolding RunsTo

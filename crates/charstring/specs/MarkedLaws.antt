@@ -52,16 +52,18 @@ module _ (lists : Lists) (l : Lent) (then : Marked) where
 
 -- ---- behind the lists
 
-module _ (rules : Rules) (cs globals locals : List ℕ) (budget : ℕ) (l : Lent) (n m : ℕ)
+module _ (rules : Rules) (globals locals : List ℕ) (n m : ℕ)
     (g : formation (rules .width) globals ≡ accepted n) (h : formation (rules .width) locals ≡ accepted m) where
-  pub past-lists : (x : Marked) → x ≡ Judged (listsOf (rules .width) globals locals) l
-      (markedBy rules (listsOf (rules .width) globals locals) l (original rules cs globals locals budget))
-      → x ≡ marking rules cs globals locals budget l
-  past-lists x e = e ∙ sym (marking-open rules cs globals locals budget l n m g h)
+  abbrev both-lists : Lists
+  both-lists = listsOf (rules .width) globals locals
+
+  pub past-lists : (cs : List ℕ) (budget : ℕ) (l : Lent) (x : Marked)
+      → x ≡ Judged both-lists l (markedBy rules both-lists l (original rules cs globals locals budget)) → x ≡ marking rules cs globals locals budget l
+  past-lists cs budget l x e = e ∙ sym (marking-open rules cs globals locals budget l n m g h)
 
   -- there is room for the marks of both in so many bytes
   pub few-marks : (w : rules .width ≡ 2) → Bytes globals → Bytes locals
-      → let lists = listsOf (rules .width) globals locals in rowSize (lists .globals .count) + rowSize (lists .locals .count) ≤ 16384
+      → rowSize (both-lists .globals .count) + rowSize (both-lists .locals .count) ≤ 16384
   few-marks w b c =
       let a = few-entries globals b n (sym (subst (λ (k : ℕ). formation k globals ≡ accepted n) w g)) in
       let d = few-entries locals c m (sym (subst (λ (k : ℕ). formation k locals ≡ accepted m) w h)) in

@@ -153,7 +153,8 @@ joined-call globals c h = by-list (c .list)
     n = 8 * rowSize globals
 
     by-list : (w : Which) → Inside globals w (c .entry) → (j : ℕ)
-        → cond (ltb j n) ((sameList Global w && eqb j (c .entry)) || entered h Global j) ((sameList Local w && eqb (j - n) (c .entry)) || entered h Local (j - n))
+        → cond (ltb j n) ((sameList Global w && eqb j (c .entry)) || entered h Global j)
+        ((sameList Local w && eqb (j - n) (c .entry)) || entered h Local (j - n))
         ≡ (eqb j (bitOf globals w (c .entry)) || cond (ltb j n) (entered h Global j) (entered h Local (j - n)))
     by-list Local i j = by-side (ltb j n) refl
       where

@@ -309,7 +309,8 @@ abbrev pub around : List ℕ → List ℕ → List ℕ → Limits → ℕ → No
 around cs globals locals by levels t marks = upon cs by (grounded globals locals by levels t marks)
 
 -- whatever state of the reading the state and the marks stand for, the run is the reading's
-unfoldable pub RunsTo : List ℕ → List ℕ → List ℕ → Limits → State → List ℕ → List ℕ → List ℕ → ℕ → Ran → List ℕ → List ℕ → List ℕ → Type 0
+unfoldable pub RunsTo : List ℕ → List ℕ → List ℕ → Limits → State → List ℕ → List ℕ → List ℕ
+    → ℕ → Ran → List ℕ → List ℕ → List ℕ → Type 0
 RunsTo cs globals locals by s stack out marks levels r stack₁ out₁ marks₁ =
     (t : Now) → Repr (meant (by .rules)) stack out s t → Says (by .globals) marks (t .shown)
     → Done (meant (by .rules)) (by .globals) stack₁ out₁ marks₁ r (whole (around cs globals locals by levels t marks))

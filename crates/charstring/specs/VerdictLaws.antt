@@ -82,7 +82,8 @@ module _ (rules : CodeRules) (stack out marks : List ℕ) (clear : Clear marks) 
 
 -- its marks are those of the reading
 pub run-marked : (rules : CodeRules) (cs globals locals : List ℕ) (budget : ℕ) (stack₁ out₁ marks marks₁ : List ℕ) (r : Ran)
-    → Done (meant rules) (countOf rules globals) stack₁ out₁ marks₁ r (original (meant rules) cs globals locals budget) → length marks₁ ≡ length marks
+    → Done (meant rules) (countOf rules globals) stack₁ out₁ marks₁ r (original (meant rules) cs globals locals budget)
+    → length marks₁ ≡ length marks
     → marks₁ ≡ runMarks (meant rules) cs globals locals budget (length marks)
 unfolding Says listsOf subrsOf
 run-marked rules cs globals locals budget stack₁ out₁ marks marks₁ r d e =

@@ -49,7 +49,8 @@ numbered-into {A} out (accepted r) h =
     (leaving (accepted (r .told)) (r .bytes ++ drop (length (r .bytes)) out)) (leaving (refused 13 (r .short)) out) tt (lit< tt)
 numbered-into out (refused n v) h = h
 
-numbered-gate : {A : Type 0} (left : Answer Flattening → A) (answer : A → Answer Flattening) → ((k : ℕ) (v : Values) → answer (left (refused k v)) ≡ refused k v)
+numbered-gate : {A : Type 0} (left : Answer Flattening → A) (answer : A → Answer Flattening)
+    → ((k : ℕ) (v : Values) → answer (left (refused k v)) ≡ refused k v)
     → (k : ℕ) (f : Answer ℕ) (then : A) → 0 < k → Numbered (answer then) → Numbered (answer (listGate left k f then))
 unfolding listGate
 numbered-gate left answer is k (accepted n) then p h = h

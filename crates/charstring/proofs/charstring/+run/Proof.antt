@@ -163,7 +163,8 @@ sized : (t : ℕ) (c : Of run-lts.After-size-of t)
     c .size-of .result ≡ length (spelling charstringRows (unpackOf (getD (stretch .last .1 .1 .1 .1 .0) (stretch .result .st .count - 1) 0)))
 sized t c =
     c .size-of .ensures
-    ∙ ap (λ (o : Operand). length (spelling charstringRows o)) (c .before .before .before .before .before .before .before .before .before .before .before .before .unpack .ensures)
+    ∙ ap (λ (o : Operand). length (spelling charstringRows o))
+    (c .before .before .before .before .before .before .before .before .before .before .before .before .unpack .ensures)
 
 there : (t : ℕ) (c : Of run-lts.After-size-of t)
     → let at = stretch-of t (call-of t (target-of t c)) in
@@ -344,7 +345,8 @@ run-enum-told t c = search needs
 
 run-loop-less : (t : ℕ) → Of run-lts.Need-loop-less t
 run-loop-less t c =
-    let n = numbers t (call-of t (target-of t (size-of t (c .before .before .before .before .before .before .before .before .before)))) in omega (arith, n .ahead, n .inside)
+    let at = c .before .before .before .before .before .before .before .before .before in
+    let n = numbers t (call-of t (target-of t (size-of t at))) in omega (arith, n .ahead, n .inside)
 
 run-loop-again : (t : ℕ) → Of run-lts.Need-loop-again t
 run-loop-again t c =

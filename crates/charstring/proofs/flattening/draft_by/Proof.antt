@@ -26,7 +26,8 @@ ran c =
 -- and so are its marks
 marked : (c : tie.After-run)
     → let args = c .before .before .before .before .before .before .before .before .before .before .before .before .args in
-    c .run .last .1 .1 .1 .1 .1 .1 .1 .0 ≡ runMarks (meant (args .rules)) (args .cs .now) (args .globals .now) (args .locals .now) (args .budget) (length (args .marks .now))
+    c .run .last .1 .1 .1 .1 .1 .1 .1 .0
+    ≡ runMarks (meant (args .rules)) (args .cs .now) (args .globals .now) (args .locals .now) (args .budget) (length (args .marks .now))
 marked c =
     let args = c .before .before .before .before .before .before .before .before .before .before .before .before .args in
     run-marked (args .rules) _ _ _ (args .budget) _ _ (args .marks .now) _ _ (ran c) (c .run .kept .1 .1 .1 .1 .1 .1 .1 .0)

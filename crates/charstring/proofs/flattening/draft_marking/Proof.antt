@@ -36,7 +36,8 @@ returns c =
     subst
     (λ (x : Rules). let run = original x (args .cs .now) (args .globals .now) (args .locals .now) (args .budget) in
     (flattened (drafted .result) ≡ verdict x run) × (Begins (drafted .last .1 .1 .1 .1 .1 .1 .0) (flatOf run)
-    × (drafted .last .1 .1 .1 .1 .1 .1 .1 .0 ≡ runMarks x (args .cs .now) (args .globals .now) (args .locals .now) (args .budget) (length (args .marks .now)))))
+    × (drafted .last .1 .1 .1 .1 .1 .1 .1 .0
+    ≡ runMarks x (args .cs .now) (args .globals .now) (args .locals .now) (args .budget) (length (args .marks .now)))))
     (rules-of .ensures) (drafted .ensures)
 
 pub draft-marking-spec : {M : Type 1} → statement M

@@ -53,7 +53,9 @@ same-length-2 : tie.Need-same-length-2
 same-length-2 c = search needs
 
 returns-2 : tie.Need-returns-2
-returns-2 c = (by-short _ _ _ _ _ _ (accepted (c .before .before)) (c .if1 .taken), c .before .before .before .before .before .before .before .draft-marking .ensures .1 .1)
+returns-2 c =
+    let at-verdict = c .before .before in
+    (by-short _ _ _ _ _ _ (accepted at-verdict) (c .if1 .taken), at-verdict .before .before .before .before .before .draft-marking .ensures .1 .1)
 
 slice-aggregate-keep : tie.Need-slice-aggregate-keep
 slice-aggregate-keep c = search needs
@@ -80,7 +82,10 @@ returns-3 : tie.Need-returns-3
 returns-3 c =
     let at-if = c .before .before .before .before .before .before in
     let drafted = c .before .before .before .before .before .before .before .before .before .before .before .before .before .draft-marking in
-    (by-held _ _ _ _ _ _ (accepted (at-if .before .before)) (at-if .if1 .left) _ (drafted .ensures .1 .0) (omega arith) _ (c .before .before .keep .ensures), drafted .ensures .1 .1)
+    let kept = c .before .before .keep in (
+      by-held _ _ _ _ _ _ (accepted (at-if .before .before)) (at-if .if1 .left) _ (drafted .ensures .1 .0) (omega arith) _ (kept .ensures),
+      drafted .ensures .1 .1,
+    )
 
 same-length-5 : tie.Need-same-length-5
 same-length-5 c = search needs

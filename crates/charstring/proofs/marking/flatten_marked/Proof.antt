@@ -1,7 +1,6 @@
-use mathlib.Core.Path.{_≡_, sym, ap, _∙_}
-use Prim.Native.Nat.{ℕ}
+use mathlib.Core.Path.{_≡_, _∙_}
+use Prim.Native.Nat.{_+_, _≤_}
 use native.Mathlib.Omega.{arith}
-use Rattle.number.specs.Answer.{Answer}
 use Rattle.index.specs.Formed.{formation, formed}
 use Rattle.reading.specs.Rules.{Rules, rulesOf}
 use Rattle.reading.specs.Lists.{Lists, listsOf}
@@ -16,25 +15,22 @@ use borrow.Author.Needs.{needs}
 use Rattle.charstring.proofs.marking.flatten_marked.Statement.{statement}
 use Rattle.charstring.proofs.marking.flatten_marked.Tie as tie
 
--- ---- what is known of the lists
+-- ---- the ways back
 
-globals-formed : (c : tie.After-check-list)
-    → let args = c .before .before .before .before .before .before .before .before .args in formed (c .check-list .result) ≡ formation (rulesOf (args .profile) .width) (args .globals .now)
-globals-formed c = formed-by _ _ _ (c .check-list .result) (c .before .rules-of .ensures) (c .check-list .ensures)
+abbrev start : tie.After-rules-of → tie.Start
+start c = c .before .before .before .before .before .before .before
 
-locals-formed : (c : tie.After-check-list2)
-    → let args = c .before .before .before .before .before .before .before .before .before .before .before .args in formed (c .check-list2 .result) ≡ formation (rulesOf (args .profile) .width) (args .locals .now)
-locals-formed c = formed-by _ _ _ (c .check-list2 .result) (c .before .before .before .before .rules-of .ensures) (c .check-list2 .ensures)
+abbrev ruled : tie.After-check-list2 → tie.After-rules-of
+ruled c = c .before .before .before .before
 
--- the globals are well formed
-globals-well : (c : tie.At-match-keys2)
-    → let args = c .before .before .before .before .before .before .before .before .before .args in WellFormed (formation (rulesOf (args .profile) .width) (args .globals .now))
-globals-well c = unflawed _ (c .before .check-list .result) (c .match .keys2) (globals-formed (c .before))
+abbrev checked : tie.After-row-size → tie.After-check-list2
+checked c = c .before .before .before .before
 
--- and so are the locals
-locals-well : (c : tie.At-match2-keys2)
-    → let args = c .before .before .before .before .before .before .before .before .before .before .before .before .args in WellFormed (formation (rulesOf (args .profile) .width) (args .locals .now))
-locals-well c = unflawed _ (c .before .check-list2 .result) (c .match2 .keys2) (locals-formed (c .before))
+abbrev first : tie.After-row-size2 → tie.After-row-size
+first c = c .before .before
+
+abbrev begun : tie.After-row-size2 → tie.Start
+begun c = start (ruled (checked (first c)))
 
 -- ---- what is to come
 
@@ -49,25 +45,59 @@ lent c = record { room = c .args .out .now; globals = c .args .globals-row .now;
 
 -- where the rows are long enough
 abbrev fitting : tie.Start → Marked
-fitting c = markedBy (rules c) (lists c) (lent c) (original (rules c) (c .args .cs .now) (c .args .globals .now) (c .args .locals .now) (c .args .budget))
+fitting c =
+    let a = c .args in
+    markedBy (rules c) (lists c) (lent c) (original (rules c) (a .cs .now) (a .globals .now) (a .locals .now) (a .budget))
+
+-- ---- what is known of the lists
+
+globals-formed : (c : tie.After-check-list)
+    → let c₀ = start (c .before) in formed (c .check-list .result) ≡ formation (rules c₀ .width) (c₀ .args .globals .now)
+globals-formed c = formed-by _ _ _ (c .check-list .result) (c .before .rules-of .ensures) (c .check-list .ensures)
+
+locals-formed : (c : tie.After-check-list2)
+    → let c₀ = start (ruled c) in formed (c .check-list2 .result) ≡ formation (rules c₀ .width) (c₀ .args .locals .now)
+locals-formed c = formed-by _ _ _ (c .check-list2 .result) (ruled c .rules-of .ensures) (c .check-list2 .ensures)
+
+-- both are well formed
+globals-well : (c : tie.After-row-size2) → WellFormed (formation (rules (begun c) .width) (begun c .args .globals .now))
+globals-well c =
+    let at-match = checked (first c) .before .before in
+    unflawed _ (at-match .before .check-list .result) (at-match .match .keys2) (globals-formed (at-match .before))
+
+locals-well : (c : tie.After-row-size2) → WellFormed (formation (rules (begun c) .width) (begun c .args .locals .now))
+locals-well c =
+    let at-match = first c .before .before .before in
+    unflawed _ (at-match .before .check-list2 .result) (at-match .match2 .keys2) (locals-formed (at-match .before))
 
 -- how many bytes the rows have
-first-is : (c : tie.After-row-size) → c .row-size .result ≡ rowSize (lists (c .before .before .before .before .before .before .before .before .before .before .before .before .before .before .before) .globals .count)
-first-is c = row-sized Global _ _ _ (c .before .before .before .before .before .before .before .before .before .before .before .before .before .before .before .args .locals .now) _ _ (c .before .before .before .before .before .before .before .before .rules-of .ensures) (c .before .count-of .ensures) (c .row-size .ensures)
+first-is : (c : tie.After-row-size) → c .row-size .result ≡ rowSize (lists (start (ruled (checked c))) .globals .count)
+first-is c =
+    let at-rules = ruled (checked c) in
+    row-sized Global _ _ _ (start at-rules .args .locals .now) _ _ (at-rules .rules-of .ensures) (c .before .count-of .ensures) (c .row-size .ensures)
 
-second-is : (c : tie.After-row-size2) → c .row-size2 .result ≡ rowSize (lists (c .before .before .before .before .before .before .before .before .before .before .before .before .before .before .before .before .before) .locals .count)
-second-is c = row-sized Local _ _ (c .before .before .before .before .before .before .before .before .before .before .before .before .before .before .before .before .before .args .globals .now) _ _ _ (c .before .before .before .before .before .before .before .before .before .before .rules-of .ensures) (c .before .count-of2 .ensures) (c .row-size2 .ensures)
+second-is : (c : tie.After-row-size2) → c .row-size2 .result ≡ rowSize (lists (begun c) .locals .count)
+second-is c =
+    let at-rules = ruled (checked (first c)) in
+    row-sized Local _ _ (begun c .args .globals .now) _ _ _ (at-rules .rules-of .ensures) (c .before .count-of2 .ensures) (c .row-size2 .ensures)
 
--- both lists are well formed
-behind : (c : tie.After-row-size2) (x : Marked)
-    → let start = c .before .before .before .before .before .before .before .before .before .before .before .before .before .before .before .before .before in
-    x ≡ Judged (lists start) (lent start) (fitting start)
-    → x ≡ marking (rules start) (start .args .cs .now) (start .args .globals .now) (start .args .locals .now) (start .args .budget) (lent start)
+-- what is judged behind them is what is to come
+behind : (c : tie.After-row-size2) (x : Marked) → x ≡ Judged (lists (begun c)) (lent (begun c)) (fitting (begun c))
+    → let a = begun c .args in x ≡ marking (rules (begun c)) (a .cs .now) (a .globals .now) (a .locals .now) (a .budget) (lent (begun c))
 behind c x e =
-    let start = c .before .before .before .before .before .before .before .before .before .before .before .before .before .before .before .before .before in
-    let g = globals-well (c .before .before .before .before .before .before .before .before) in
-    let h = locals-well (c .before .before .before .before .before) in
-    past-lists (rules start) _ _ _ _ (lent start) (g .count) (h .count) (g .is) (h .is) x e
+    let g = globals-well c in
+    let h = locals-well c in
+    past-lists (rules (begun c)) _ _ (g .count) (h .count) (g .is) (h .is) _ _ (lent (begun c)) x e
+
+-- and there is room for the marks of both
+enough : (c : tie.After-row-size2) → c .before .before .row-size .result + c .row-size2 .result ≤ 16384
+enough c =
+    let g = globals-well c in
+    let h = locals-well c in
+    let at-locals = ruled (checked (first c)) .before .before .before .before in
+    let few = few-marks (rules (begun c)) _ _ (g .count) (h .count) (g .is) (h .is) (width-two (begun c .args .profile))
+    (λ i. at-locals .before .shared-slice-known2 .given i .fits) (λ i. at-locals .shared-slice-known3 .given i .fits) in
+    omega (arith, first-is (first c), second-is c, few)
 
 rules-of-requires : tie.Need-rules-of-requires
 rules-of-requires c κs = search needs
@@ -121,36 +151,29 @@ row-size-requires-2 c κs = search needs
 
 returns-3 : tie.Need-returns-3
 returns-3 c =
-    let sized = c .before in
-    let start = sized .before .before .before .before .before .before .before .before .before .before .before .before .before .before .before .before .before in
-    behind sized _ (short-globals (lists start) (lent start) (fitting start) (omega (arith, first-is (sized .before .before), c .if1 .taken)))
+    let at = c .before in
+    behind at _ (short-globals (lists (begun at)) (lent (begun at)) (fitting (begun at)) (omega (arith, first-is (first at), c .if1 .taken)))
 
 returns-4 : tie.Need-returns-4
 returns-4 c =
-    let sized = c .before .before in
-    let start = sized .before .before .before .before .before .before .before .before .before .before .before .before .before .before .before .before .before in
-    behind sized _ (short-locals (lists start) (lent start) (fitting start) (omega (arith, first-is (sized .before .before), c .before .if1 .left))
-    (omega (arith, second-is sized, c .if2 .taken)))
+    let at = c .before .before in
+    behind at _ (short-locals (lists (begun at)) (lent (begun at)) (fitting (begun at))
+    (omega (arith, first-is (first at), c .before .if1 .left)) (omega (arith, second-is at, c .if2 .taken)))
 
 slice-aggregate-write-rows : tie.Need-slice-aggregate-write-rows
 slice-aggregate-write-rows c = search needs
 
 write-rows-requires : tie.Need-write-rows-requires
 write-rows-requires c κs =
-    let sized = c .before .before .before .before .before .before in
-    let start = sized .before .before .before .before .before .before .before .before .before .before .before .before .before .before .before .before .before in
-    let p = start .args .profile in
-    let g = globals-well (sized .before .before .before .before .before .before .before .before) in
-    let h = locals-well (sized .before .before .before .before .before) in
-    let few = few-marks (rulesOf p) (start .args .cs .now) _ _ (start .args .budget) (lent start) (g .count) (h .count) (g .is) (h .is) (width-two p)
-    (λ i. sized .before .before .before .before .before .before .before .before .before .before .before .before .before .before .before .shared-slice-known2 .given i .fits) (λ i. sized .before .before .before .before .before .before .before .before .before .before .before .before .before .before .shared-slice-known3 .given i .fits) in (
+    let at-ifs = c .before .before .before .before in
+    let at = at-ifs .before .before in (
       clear-zeros 16384,
       record {
-        first-is = first-is (sized .before .before);
-        second-is = second-is sized;
-        globals-room = c .before .before .before .before .before .if1 .left;
-        locals-room = c .before .before .before .before .if2 .left;
-        marks-room = omega (arith, first-is (sized .before .before), second-is sized, few);
+        first-is = first-is (first at);
+        second-is = second-is at;
+        globals-room = at-ifs .before .if1 .left;
+        locals-room = at-ifs .if2 .left;
+        marks-room = enough at;
       },
     )
 
@@ -165,10 +188,11 @@ same-length-3 c = search needs
 
 returns-5 : tie.Need-returns-5
 returns-5 c =
-    let sized = c .before .before .before .before .before .before .before .before .before .before .before .before .before .before in
-    let start = sized .before .before .before .before .before .before .before .before .before .before .before .before .before .before .before .before .before in
-    behind sized _ (c .before .before .before .before .before .before .before .write-rows .ensures ∙ rows-fit (lists start) (lent start) (fitting start) (omega (arith, first-is (sized .before .before), c .before .before .before .before .before .before .before .before .before .before .before .before .before .if1 .left))
-    (omega (arith, second-is sized, c .before .before .before .before .before .before .before .before .before .before .before .before .if2 .left)))
+    let wrote = c .before .before .before .before .before .before .before in
+    let at-ifs = wrote .before .before .before .before .before in
+    let at = at-ifs .before .before in
+    behind at _ (wrote .write-rows .ensures ∙ rows-fit (lists (begun at)) (lent (begun at)) (fitting (begun at))
+    (omega (arith, first-is (first at), at-ifs .before .if1 .left)) (omega (arith, second-is at, at-ifs .if2 .left)))
 
 pub flatten-marked-spec : {M : Type 1} → statement M
 flatten-marked-spec =

@@ -45,14 +45,17 @@ same-length-4 c = search needs
 
 returns : tie.Need-returns
 returns c =
-    let wrote = c .before .before .before .before .before .before .before .before .before .before .before .before .before .before .before .before .before .write-marking in
-    let start = c .before .before .before .before .before .before .before .before .before .before .before .before .before .before .before .before .before .before .before .before .before .before .before .before .before .before .before in
+    let at-told = c .before .before .before .before .before .before .before .before .before .before .before in
+    let at-wrote = at-told .before .before .before .before .before .before in
+    let wrote = at-wrote .write-marking in
+    let start = at-wrote .before .before .before .before .before .before .before .before .before .before in
     let args = start .args in
     rows-kept (rulesOf (args .profile)) (args .cs .now) (args .globals .now) (args .locals .now) (args .budget)
     (record { room = args .out .now; globals = args .globals-row .now; locals = args .locals-row .now }) (args .first) (args .second)
-    (args .marks .now) _ (start .pre .1) (wrote .ensures .1) (flattened (wrote .result)) _ _ _ _ (ap flattened (c .before .before .before .before .before .before .before .before .before .before .before .enum-told .given .1))
+    (args .marks .now) _ (start .pre .1) (wrote .ensures .1) (flattened (wrote .result)) _ _ _ _ (ap flattened (at-told .enum-told .given .1))
     (wrote .ensures .0) (c .before .before .before .before .before .before .before .before .keep .ensures)
-    (c .before .before .keep2 .ensures ∙ ap (λ (l : List ℕ). take (args .second) l ++ drop (args .second) (args .locals-row .now)) (rest-part (args .first) _))
+    (c .before .before .keep2 .ensures
+    ∙ ap (λ (l : List ℕ). take (args .second) l ++ drop (args .second) (args .locals-row .now)) (rest-part (args .first) _))
 
 same-length-5 : tie.Need-same-length-5
 same-length-5 c = search needs

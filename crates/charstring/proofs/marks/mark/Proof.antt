@@ -20,8 +20,9 @@ same-length c = search needs
 
 returns : tie.Need-returns
 returns c =
-    let marks = c .before .before .before .before .before .args .marks .now in
-    mark-inside marks (c .before .before .before .bit-of .result) _ _ (c .before .before .before .bit-of .ensures .0) (c .before .before .if1 .taken) (c .with-bit .ensures)
+    let at-bit = c .before .before .before in
+    let marks = at-bit .before .before .args .marks .now in
+    mark-inside marks (at-bit .bit-of .result) _ _ (at-bit .bit-of .ensures .0) (c .before .before .if1 .taken) (c .with-bit .ensures)
 
 returns-2 : tie.Need-returns-2
 returns-2 c = mark-outside (c .before .before .before .args .marks .now) (c .before .bit-of .result) _ (c .before .bit-of .ensures .0) (c .if1 .left)

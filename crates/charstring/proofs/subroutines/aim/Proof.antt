@@ -24,8 +24,10 @@ enum-told-2 c = search needs
 returns : tie.Need-returns
 returns c =
     let args = c .before .before .before .before .before .before .args in
-    let e = ap calleeOf (sym (c .before .before .k .given .1)) ∙ c .before .before .before .before .callee-of .ensures in
-    (aimed-entry (meant (args .rules)) _ _ _ _ _ _ e (c .admit .ensures .0), (c .admit .ensures .1 .0, names-as _ _ (c .admit .result) e (c .admit .ensures .1 .1)))
+    let e = ap calleeOf (sym (c .before .before .k .given .1)) ∙ c .before .before .before .before .callee-of .ensures in (
+      aimed-entry (meant (args .rules)) _ _ _ _ _ _ e (c .admit .ensures .0),
+      (c .admit .ensures .1 .0, names-as _ _ (c .admit .result) e (c .admit .ensures .1 .1)),
+    )
 
 returns-2 : tie.Need-returns-2
 returns-2 c = (aimed-none _ _ _ _ _ _ 7 (ap calleeOf (sym (c .enum-told .given .1)) ∙ c .before .before .callee-of .ensures), (tt, tt))

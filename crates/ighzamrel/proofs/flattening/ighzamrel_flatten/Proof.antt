@@ -48,8 +48,9 @@ same-length c = search needs
 
 returns : tie.Need-returns
 returns c =
+    let at-flatten = c .before .before .before .before .before .before .before .before .before in
     with-room _ (c .tell-flattened .ensures)
-    ∙ ap (λ (o : Outcome (Answer Flattening)). tellFlattening o (places (start (c .before .before .before .before .before .before .before .before .before)))) (asked (c .before .before .before .before .before .before .before .before .before))
+    ∙ ap (λ (o : Outcome (Answer Flattening)). tellFlattening o (places (start at-flatten))) (asked at-flatten)
 
 pub ighzamrel-flatten-spec : {M : Type 1} → statement M
 ighzamrel-flatten-spec = tie.close (tie.spec profile-of-requires flatten-requires tell-flattened-requires same-length returns)
