@@ -211,7 +211,8 @@ module _ (cs globals locals : List ℕ) (by : Limits) (levels : ℕ) (stack₀ o
           ran-there : RunsTo body-of globals locals by s stack out with-mark (levels - 1) r₁ stack₁ out₁ marks₁
           ran-there =
               subst
-              (λ (l : List ℕ). RunsTo (take (to - from) (drop from l)) globals locals by s stack out with-mark (levels - 1) r₁ stack₁ out₁ marks₁) its
+              (λ (l : List ℕ). RunsTo (take (to - from) (drop from l)) globals locals by s stack out with-mark (levels - 1)
+              r₁ stack₁ out₁ marks₁) its
               (subst
               (λ (l : List ℕ). RunsTo (take (to - from) (drop from list)) globals locals by s stack out l (levels - 1)
               r₁ stack₁ out₁ marks₁)
