@@ -25,6 +25,9 @@ const LONG: u32 = 1_100_000;
 const SHORT_ROOM: usize = 64;
 const LONG_ROOM: usize = 1024;
 
+/// Of a font so many glyphs, spread evenly, are run with rows too: each of these has lists made anew.
+const WITH_ROWS: usize = 500;
+
 /// What the random ones of a sample have at least, however long the sections before them took.
 const LEAST_TIME: Duration = Duration::from_secs(5);
 
@@ -174,15 +177,19 @@ impl Run {
     }
 }
 
-/// Glyph by glyph, without rows and with them, and in one call for each local list in both profiles.
+/// Glyph by glyph, at times with rows too, and in one call for each local list in both profiles.
 fn of_font(part: &mut Part, font: &Font, most: usize) -> Result<(), String> {
-    let step = font.glyphs().count().div_ceil(most).max(1);
-    for glyph in font.glyphs().step_by(step) {
+    let glyphs = font.glyphs().count();
+    let step = glyphs.div_ceil(most).max(1);
+    let with_rows = glyphs.div_ceil(step).div_ceil(WITH_ROWS).max(1);
+    for (i, glyph) in font.glyphs().step_by(step).enumerate() {
         // a font's lists are long, and are lent anew at each call: so of what follows, a third or less
         let slices = [glyph.charstring, glyph.globals, glyph.locals];
         let call = flattening(slices, LONG, LONG_ROOM);
         part.look(&call, 3)?;
-        part.look(&with_exact_rows(call), 9)?;
+        if i % with_rows == 0 {
+            part.look(&with_exact_rows(call), 9)?;
+        }
     }
     for slices in font.whole(step) {
         let room = (4 * slices[0].len() + 64).min(MOST_ROOM);
