@@ -20,7 +20,12 @@ pub fn ours(glyph: &Glyph, budget: u32, out: &mut [u8]) -> Answer {
 }
 
 /// The same with rows, the globals' and the locals'.
-pub fn ours_with_rows(glyph: &Glyph, budget: u32, out: &mut [u8], rows: &mut [Vec<u8>; 2]) -> Answer {
+pub fn ours_with_rows(
+    glyph: &Glyph,
+    budget: u32,
+    out: &mut [u8],
+    rows: &mut [Vec<u8>; 2],
+) -> Answer {
     let Glyph { charstring, globals, locals } = *glyph;
     let mut places = Places::default();
     let rows = rows.each_mut().map(|row| &mut row[..]);
