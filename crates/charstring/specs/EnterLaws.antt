@@ -17,7 +17,7 @@ use Rattle.number.specs.declared.Operand.{Operand}
 use Rattle.index.specs.Index.{Place, extent, place, bytesBy, part}
 use Rattle.reading.specs.Lists.{Subrs, listed, countIn, entryBy, subrsOf}
 use Rattle.reading.specs.Items.{Item, operand, bare, masked}
-use Rattle.reading.specs.Reading.{Entering, struck, Ending as How, back, ended, stopped, Run, State as Now, Step, enter, refuse, entered as into-entry, closed}
+use Rattle.reading.specs.Reading.{Entering, struck, Ending as How, back, ended, stopped, Run, State as Now, Step, enter, refuse, called, closed}
 use Rattle.reading.specs.Reading.{endsInOperand, admitted, onEntry, onIndex, onCall, onOperator, onCut, onToken, resume, after, read}
 use Rattle.reading.specs.Flat.{spelled, flat}
 use Rattle.reading.specs.StepLaws.{enters}
@@ -212,7 +212,7 @@ module _ (u : Setup) (stack out : List ℕ) (s : State) (i : ℕ) (h : Here u st
           budget = u .budget;
           levels = u .levels - 1;
           cs = body;
-          start = into-entry entering (h .now);
+          start = called entering (h .now);
           globals = u .globals;
           marks = markedAt (u .marks) (bitOf (u .globals) which k);
         }

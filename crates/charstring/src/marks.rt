@@ -1,7 +1,7 @@
 // Marks of the entries that a run enters: a bit for each, the globals' row first and the locals' behind it.
 use reading::Which;
 ghost use mathlib.Core.Path.{_≡_};
-ghost use Prim.Native.Nat.{_+_, _*_, _<_};
+ghost use Prim.Native.Nat.{_<_};
 ghost use Rattle.reading.specs.Entered.{rowSize};
 ghost use Rattle.charstring.specs.Marks.{bitOf, withBit, markedAt};
 
@@ -27,7 +27,6 @@ pub(crate) fn row_size(count: u32) -> usize
 // The bit of entry k.
 fn bit_of(which: Which, k: u32, globals: u32) -> usize
     ensures { λ r. ⌜ r ≡ bitOf globals which k ⌝ }
-    ensures { λ r. ⌜ r < 8589934600 ⌝ }
 {
     match which {
         Which::Global => k as usize,

@@ -18,7 +18,7 @@ use Rattle.reading.specs.Lists.{Lists, Entry, present, absent, listed}
 use Rattle.reading.specs.Tokens.{number, operator, Cut, token, lacking, cut}
 use Rattle.reading.specs.Reading.{Entering, Shown, item, call, return, State, start, Ending, back, ended, stopped, Run, Step, halt, go, enter, refuse}
 use Rattle.reading.specs.Reading.{endsInOperand, struck, admitted, onEntry, onIndex, onCall, onOperator, onCut, onToken, resume, after, tokensOf}
-use Rattle.reading.specs.Reading.{entered as into, read, reading}
+use Rattle.reading.specs.Reading.{called, read, reading}
 use Rattle.reading.specs.StepLaws.{declines, goes, pushes, stems, clears, masks, enters, returns, ends, Stepped, spent, begun, token-is}
 use Rattle.reading.specs.RunLaws.{Led, Kept, kept}
 use Rattle.reading.specs.Entered.{sameList, goesTo, entered, enteredBy}
@@ -98,7 +98,7 @@ module _ (rules : Rules) (a b : Lists) (alike : Shaped a b) (budget : ℕ) where
               → onEntry rest s c (judged u v body′) ≡ onEntry rest s c (judged u v body)
           by-tests true v g = refl
           by-tests false false g = refl
-          by-tests false true g = let same : body ≡ body′ = let e = f g in cc in ap (λ (l : List ℕ). enter l rest (into c s)) (sym same)
+          by-tests false true g = let same : body ≡ body′ = let e = f g in cc in ap (λ (l : List ℕ). enter l rest (called c s)) (sym same)
 
       module _ (w : Which) (o : Operand) where
         same-index : (x : Answer ℕ) → callee (rules .exact) (listed a w .count) o ≡ x

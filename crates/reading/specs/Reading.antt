@@ -88,8 +88,8 @@ refuse n s = halt (stopped n) s
 abbrev pub shows : Rules → Item → State → State
 shows rules i s = record { left = leaves rules i (s .left); shown = item i ∷ s .shown; within = s .within }
 
-abbrev pub entered : Entering → State → State
-entered c s = record { left = popped (s .left); shown = call c ∷ s .shown; within = c ∷ s .within }
+abbrev pub called : Entering → State → State
+called c s = record { left = popped (s .left); shown = call c ∷ s .shown; within = c ∷ s .within }
 
 abbrev pub returned : State → State
 returned s = record { left = s .left; shown = return ∷ s .shown; within = s .within }
@@ -133,7 +133,7 @@ admitted levels last (present x) = cond (eqb levels 0) (refused 10 alone) (cond 
 
 unfoldable pub onEntry : List ℕ → State → Entering → Answer (List ℕ) → Step
 onEntry rest s c (refused n v) = refuse n s
-onEntry rest s c (accepted body) = enter body rest (entered c s)
+onEntry rest s c (accepted body) = enter body rest (called c s)
 
 module _ (levels : ℕ) (rest : List ℕ) (s : State) where
   module _ (which : Which) (list : Subrs) (at : ℕ) where

@@ -17,7 +17,7 @@ use Rattle.reading.specs.Rules.{Rules}
 use Rattle.reading.specs.Lists.{Lists, Entry, present, absent, listed}
 use Rattle.reading.specs.Tokens.{number, operator, Cut, token, lacking, cut}
 use Rattle.reading.specs.Items.{operand, bare, masked, counted, atMask, leftOver}
-use Rattle.reading.specs.Reading.{Entering, struck, State, back, ended, Step, halt, go, enter, refuse, shows, entered, returned, endsInOperand}
+use Rattle.reading.specs.Reading.{Entering, struck, State, back, ended, Step, halt, go, enter, refuse, shows, called, returned, endsInOperand}
 use Rattle.reading.specs.Reading.{admitted, onNumber, onStem, onMask, onEnd, onEntry, onIndex, onCall, onOperator, onCut, onToken}
 use Rattle.reading.specs.declared.Operator.{Operator}
 use Rattle.reading.specs.declared.Which.{Which}
@@ -40,7 +40,7 @@ pub data Goes (rules : Rules) (lists : Lists) (levels at : ℕ) (bytes : List �
       → rules .kind p ≡ Call (c .list) → c .at ≡ at → s .left .operands ≡ c .index ∷ ops
       → callee (rules .exact) (listed lists (c .list) .count) (c .index) ≡ accepted (c .entry) → listed lists (c .list) .entry (c .entry) ≡ present body
       → (levels ≡ 0 → ⊥) → endsInOperand (struck (s .shown)) ≡ true
-      → Goes rules lists levels at bytes s (enter body rest (entered c s))
+      → Goes rules lists levels at bytes s (enter body rest (called c s))
   returns : (p : Operator) (rest : List ℕ) → cut bytes ≡ token (operator p) rest → rules .kind p ≡ Return
       → Goes rules lists levels at bytes s (halt back (returned s))
   ends : (p : Operator) (rest : List ℕ) → cut bytes ≡ token (operator p) rest → rules .kind p ≡ End → length (s .left .operands) < 4
@@ -222,7 +222,7 @@ module _ (rules : Rules) (lists : Lists) (budget levels at : ℕ) (bytes : List 
         → listed lists (c .list) .entry (c .entry) ≡ present body
         → (levels ≡ 0 → ⊥) → endsInOperand (struck (s .shown)) ≡ true
         → onOperator rules lists levels at rest s p (Call (c .list))
-        ≡ enter body rest (entered c s)
+        ≡ enter body rest (called c s)
     unfolding onOperator onCall onIndex onEntry admitted
     call-taken c ops body a o e f l u =
         ap (onCall levels rest s (c .list) (listed lists (c .list)) at (rules .exact)) o ∙ index-taken ∙ entry-taken
@@ -230,11 +230,11 @@ module _ (rules : Rules) (lists : Lists) (budget levels at : ℕ) (bytes : List 
         here : Entering
         here = record { list = c .list; entry = c .entry; at = at; index = c .index }
 
-        index-taken : onCall levels rest s (c .list) (listed lists (c .list)) at (rules .exact) (c .index ∷ ops) ≡ enter body rest (entered here s)
+        index-taken : onCall levels rest s (c .list) (listed lists (c .list)) at (rules .exact) (c .index ∷ ops) ≡ enter body rest (called here s)
         index-taken = rw (e, f, ne-eqb levels 0 l, u)
 
-        entry-taken : enter body rest (entered here s) ≡ enter body rest (entered c s)
-        entry-taken = λ i. enter body rest (entered (record { list = c .list; entry = c .entry; at = sym a i; index = c .index }) s)
+        entry-taken : enter body rest (called here s) ≡ enter body rest (called c s)
+        entry-taken = λ i. enter body rest (called (record { list = c .list; entry = c .entry; at = sym a i; index = c .index }) s)
 
   takes : (x : Step) → Goes rules lists levels at bytes s x → onCut rules lists levels at s (cut bytes) ≡ x
   takes x (pushes o rest q l) = on-number o rest q ∙ number-taken o rest l

@@ -1,6 +1,5 @@
 use mathlib.Core.Path.{_≡_, sym, ap, _∙_}
 use Prim.Native.Nat.{ℕ, _+_, _*_}
-use native.Mathlib.Omega.{arith}
 use Rattle.charstring.specs.Marks.{bitOf}
 use Rattle.reading.specs.declared.Which.{Which}
 use Rattle.reading.specs.declared.Which.the-variants.{Local}
@@ -31,7 +30,7 @@ returns-2 c =
     let args = c .before .before .before .args in
     let is : bitOf (args .globals) (args .which) (args .k) ≡ bitOf (args .globals) Local (args .k) =
     ap (λ (w : Which). bitOf (args .globals) w (args .k)) (c .before .enum-told2 .given .1) in
-    (ap (λ (n : ℕ). 8 * n + args .k) (c .row-size .ensures) ∙ sym is, omega arith)
+    ap (λ (n : ℕ). 8 * n + args .k) (c .row-size .ensures) ∙ sym is
 
 pub bit-of-spec : {M : Type 1} → statement M
 bit-of-spec = tie.close (tie.spec enum-told enum-told-2 row-size-requires mul-result add-result returns returns-2)

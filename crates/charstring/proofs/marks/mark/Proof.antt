@@ -22,10 +22,10 @@ returns : tie.Need-returns
 returns c =
     let at-bit = c .before .before .before in
     let marks = at-bit .before .before .args .marks .now in
-    mark-inside marks (at-bit .bit-of .result) _ _ (at-bit .bit-of .ensures .0) (c .before .before .if1 .taken) (c .with-bit .ensures)
+    mark-inside marks (at-bit .bit-of .result) _ _ (at-bit .bit-of .ensures) (c .before .before .if1 .taken) (c .with-bit .ensures)
 
 returns-2 : tie.Need-returns-2
-returns-2 c = mark-outside (c .before .before .before .args .marks .now) (c .before .bit-of .result) _ (c .before .bit-of .ensures .0) (c .if1 .left)
+returns-2 c = mark-outside (c .before .before .before .args .marks .now) (c .before .bit-of .result) _ (c .before .bit-of .ensures) (c .if1 .left)
 
 pub mark-spec : {M : Type 1} → statement M
 mark-spec =
