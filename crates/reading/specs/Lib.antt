@@ -6,6 +6,7 @@ pub mod Reading
 pub mod Flat
 pub mod Answers
 pub mod Entered
+pub mod Explained
 pub mod Valid
 pub mod Masks
 pub mod Widths

@@ -213,3 +213,11 @@ impl FlattenedMarked {
         }
     }
 }
+
+// What explaining a charstring answers.
+pub struct Explained {
+    // The verdict on it, whatever the room.
+    pub verdict: Flattened,
+    // How many calls were open where it was refused; none where no run was.
+    pub calls: usize,
+}
