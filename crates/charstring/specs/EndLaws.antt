@@ -1,6 +1,6 @@
 -- How a string ends that is run: its bytes run out, a return, an endchar, a refusal. Assumes nothing.
-use mathlib.Core.Path.{_≡_, sym, ap, subst, _∙_}
-use mathlib.Core.List.{List, _++_}
+use mathlib.Core.Path.{_≡_, refl, sym, ap, subst, _∙_}
+use mathlib.Core.List.{List, [], _++_}
 use Prim.Native.Nat.{ℕ, suc, _+_, _≤_, _<_}
 use native.Mathlib.Omega.{arith}
 use lib.ListN.{length, drop, length-append}
@@ -21,7 +21,7 @@ use Rattle.charstring.specs.WordsLaws.{sets-begins}
 use Rattle.charstring.specs.Marks.{Says}
 use Rattle.charstring.specs.MarksLaws.{says-item, says-return}
 use Rattle.charstring.specs.States.{returned, finished}
-use Rattle.charstring.specs.Run.{AtOperator, Refuses, Begins, Holds, Repr, howOf, settledAt, Setup, whole, Here, Done}
+use Rattle.charstring.specs.Run.{AtOperator, Refuses, Begins, Holds, Repr, howOf, settledAt, Setup, whole, Here, Done, Opened, Finishes}
 use Rattle.charstring.specs.HereLaws.{settled-so, stepped, counted-as, taken, led, halts, runs-out}
 use Rattle.charstring.specs.declared.state.State.{State}
 use Rattle.charstring.specs.declared.stretch.Ending.{Ending}
@@ -32,7 +32,17 @@ ended-not-back e = let z : _≡_ {A = ℕ} 0 1 = cc in omega arith
 
 module _ (u : Setup) (stack out : List ℕ) (s : State) (i : ℕ) (h : Here u stack out s i) where
   abbrev pub EndsWith : Ending → State → List ℕ → Type 0
-  EndsWith how st out₁ = Done (u .rules) (u .globals) stack out₁ (u .marks) (record { how = how; st = st }) (whole u)
+  EndsWith how st out₁ = Finishes u stack out₁ (u .marks) (record { how = how; st = st; levels = u .levels })
+
+  -- a string that ends in itself has no call open
+  ends-open : {y : Now} → whole u .state ≡ y → y .within ≡ h .now .within → Opened (u .levels) (u .levels) (u .start) (whole u)
+  ends-open e q =
+      record {
+        newer = [];
+        open-is = ap (λ (z : Now). z .within) e ∙ q ∙ h .open-is;
+        deep = omega arith;
+        all-closed = λ z. refl;
+      }
 
   -- what the marks say of a state, they say of the run that ends with it
   says : {x y : Now} → x ≡ y → Says (u .globals) (u .marks) (y .shown) → Says (u .globals) (u .marks) (x .shown)
@@ -40,7 +50,7 @@ module _ (u : Setup) (stack out : List ℕ) (s : State) (i : ℕ) (h : Here u st
 
   -- the state is as it was before the token
   kept : (e : Ending) (x : Run) → howOf e ≡ x .how → x .state ≡ h .now
-      → Done (u .rules) (u .globals) stack out (u .marks) (record { how = e; st = s }) x
+      → Done (u .rules) (u .globals) stack out (u .marks) (record { how = e; st = s; levels = u .levels }) x
   kept e x q n =
       let r = h .repr in
       record {
@@ -56,12 +66,14 @@ module _ (u : Setup) (stack out : List ℕ) (s : State) (i : ℕ) (h : Here u st
   pub by-out : length (u .cs) ≤ i → EndsWith Back s out
   by-out l =
       let e = runs-out u stack out s i h l in
-      kept Back (whole u) (sym (ap (λ (x : Run). x .how) e)) (ap (λ (x : Run). x .state) e)
+      let same = ap (λ (x : Run). x .state) e in
+      (kept Back (whole u) (sym (ap (λ (x : Run). x .how) e)) same, ends-open same refl)
 
   pub by-refusal : (k : Refusal) → i < length (u .cs) → stepped u stack out s i h ≡ refuse (numberOf k) (h .now) → EndsWith (Refused k) s out
   by-refusal k l q =
       let e = halts u stack out s i h l (stopped (numberOf k)) (h .now) q in
-      kept (Refused k) (whole u) (sym (ap (λ (x : Run). x .how) e)) (ap (λ (x : Run). x .state) e)
+      let same = ap (λ (x : Run). x .state) e in
+      (kept (Refused k) (whole u) (sym (ap (λ (x : Run). x .how) e)) same, ends-open same refl)
 
   pub by-bad : (k : Refusal) → Refuses (u .rules) (u .cs) i (u .budget) s (numberOf k) → EndsWith (Refused k) s out
   by-bad k f = by-refusal k (f .some) (f .refusal (u .lists) (u .levels) _ (h .now) (counted-as u stack out s i h))
@@ -96,16 +108,18 @@ module _ (u : Setup) (stack out : List ℕ) (s : State) (i : ℕ) (h : Here u st
           length-is = r .length-is;
           good = led u stack out s i h _ g;
           bytes = r .bytes;
-        } in
-        record {
-          how = sym (ap (λ (x : Run). x .how) e);
-          tokens-are = ap (λ (y : Now). length (y .shown)) same ∙ now-back .tokens-are;
-          length-is = ap (λ (y : Now). length (flat (struck (y .shown)))) same ∙ r .length-is;
-          bytes = subst (λ (y : Now). Begins out (flat (struck (y .shown)))) (sym same) (r .bytes);
-          advance-is = ap (λ (y : Now). y .left .advance) same ∙ r .held .advance-is;
-          marked = says same (says-return _ _ _ (h .marked));
-          on = λ z. subst (Repr (u .rules) stack out (returned s)) (sym same) now-back;
-        }
+        } in (
+          record {
+            how = sym (ap (λ (x : Run). x .how) e);
+            tokens-are = ap (λ (y : Now). length (y .shown)) same ∙ now-back .tokens-are;
+            length-is = ap (λ (y : Now). length (flat (struck (y .shown)))) same ∙ r .length-is;
+            bytes = subst (λ (y : Now). Begins out (flat (struck (y .shown)))) (sym same) (r .bytes);
+            advance-is = ap (λ (y : Now). y .left .advance) same ∙ r .held .advance-is;
+            marked = says same (says-return _ _ _ (h .marked));
+            on = λ z. subst (Repr (u .rules) stack out (returned s)) (sym same) now-back;
+          },
+          ends-open same refl,
+        )
 
     pub by-end : (length₁ : ℕ) (w : Settled) (out₁ : List ℕ) → u .rules .kind p ≡ End → s .count < 4
         → settledAs w ≡ settledAt (u .rules .takes p) stack s → out₁ ≡ sets out (s .length) (operatorBytes p)
@@ -118,15 +132,17 @@ module _ (u : Setup) (stack out : List ℕ) (s : State) (i : ℕ) (h : Here u st
         let f = flat (struck (h .now .shown)) in
         let same : whole u .state ≡ shows (u .rules) (bare p) (h .now) = ap (λ (x : Run). x .state) e in
         let count : suc (length (h .now .shown)) ≡ s .tokens + 1 = let q = r .tokens-are in omega arith in
-        let size : length (f ++ operatorBytes p) ≡ length₁ = let q = r .length-is in omega (arith, length-append f (operatorBytes p)) in
-        record {
-          how = sym (ap (λ (x : Run). x .how) e);
-          tokens-are = ap (λ (y : Now). length (y .shown)) same ∙ count;
-          length-is = ap (λ (y : Now). length (flat (struck (y .shown)))) same ∙ size;
-          bytes = subst (λ (y : Now). Begins out₁ (flat (struck (y .shown)))) (sym same)
-              (subst (λ (o : List ℕ). Begins o (f ++ operatorBytes p)) (sym d) (sets-begins out (s .length) (operatorBytes p) f (r .length-is) (r .bytes)));
-          advance-is = ap (λ (y : Now). y .left .advance) same ∙ end-says (h .now .left) k
-              ∙ settled-so (u .rules .takes p) stack s (h .now .left) (r .held) ∙ sym v;
-          marked = says same (says-item _ _ _ (h .marked) (bare p));
-          on = λ z. absurd (ended-not-back (sym (ap (λ (x : Run). x .how) e) ∙ z));
-        }
+        let size : length (f ++ operatorBytes p) ≡ length₁ = let q = r .length-is in omega (arith, length-append f (operatorBytes p)) in (
+          record {
+            how = sym (ap (λ (x : Run). x .how) e);
+            tokens-are = ap (λ (y : Now). length (y .shown)) same ∙ count;
+            length-is = ap (λ (y : Now). length (flat (struck (y .shown)))) same ∙ size;
+            bytes = subst (λ (y : Now). Begins out₁ (flat (struck (y .shown)))) (sym same)
+                (subst (λ (o : List ℕ). Begins o (f ++ operatorBytes p)) (sym d) (sets-begins out (s .length) (operatorBytes p) f (r .length-is) (r .bytes)));
+            advance-is = ap (λ (y : Now). y .left .advance) same ∙ end-says (h .now .left) k
+                ∙ settled-so (u .rules .takes p) stack s (h .now .left) (r .held) ∙ sym v;
+            marked = says same (says-item _ _ _ (h .marked) (bare p));
+            on = λ z. absurd (ended-not-back (sym (ap (λ (x : Run). x .how) e) ∙ z));
+          },
+          ends-open same refl,
+        )

@@ -1,7 +1,7 @@
 -- A call, in the reading's words: it is refused, or its entry is run and the caller goes on. Assumes nothing.
 use mathlib.Core.Path.{_≡_, refl, sym, ap, subst, _∙_}
 use mathlib.Core.Bool.{Bool, true, false, cond}
-use mathlib.Core.List.{List, [], _∷_, _++_}
+use mathlib.Core.List.{List, [], _∷_, _++_, append-assoc}
 use Prim.Native.Nat.{ℕ, zero, suc, _+_, _-_, _≤_, _<_}
 use native.Mathlib.Omega.{arith}
 use lib.Dec.{eqb, ltb}
@@ -31,7 +31,7 @@ use Rattle.charstring.specs.Marks.{bitOf, markedAt, Says}
 use Rattle.charstring.specs.MarksLaws.{below-inside, says-call}
 use Rattle.charstring.specs.WordsLaws.{begins-cut, stack-last}
 use Rattle.charstring.specs.States.{entered}
-use Rattle.charstring.specs.Run.{CallsAt, Begins, tailOf, Repr, howOf, Setup, remarked, belowBy, below, whole, onwards, Here, Done}
+use Rattle.charstring.specs.Run.{CallsAt, Begins, tailOf, Repr, howOf, Setup, remarked, belowBy, below, whole, onwards, Here, Done, Opened, Finishes}
 use Rattle.charstring.specs.HereLaws.{place-of, stepped, Leads, within, taken, led, after-step}
 use Rattle.charstring.specs.EndLaws.{EndsWith, by-refusal}
 use Rattle.charstring.specs.declared.state.State.{State}
@@ -117,6 +117,10 @@ how-back : (e : Ending) → howOf e ≡ back → e ≡ Back
 how-back Back q = refl
 how-back Ended q = let w : _≡_ {A = ℕ} 0 1 = cc in absurd (omega arith)
 how-back (Refused k) q = let w : _≡_ {A = ℕ} 0 1 = cc in absurd (omega arith)
+
+some-level : (levels : ℕ) → (levels ≡ 0 → ⊥) → 0 < levels
+some-level zero n = absurd (n refl)
+some-level (suc levels) n = omega arith
 
 repr-closed : (u : Setup) (stack out : List ℕ) (s : State) (t : Now) → Repr (u .rules) stack out s t → Repr (u .rules) stack out s (closed t)
 repr-closed u stack out s t r =
@@ -287,7 +291,13 @@ module _ (u : Setup) (stack out : List ℕ) (s : State) (i : ℕ) (h : Here u st
           ),
         )
 
-    module _ (r : Ran) (stack₁ out₁ marks₁ : List ℕ) (d : Done (u .rules) (u .globals) stack₁ out₁ marks₁ r (whole deeper)) where
+    module _ (r : Ran) (stack₁ out₁ marks₁ : List ℕ) (ended : Finishes deeper stack₁ out₁ marks₁ r) where
+      abbrev d : Done (u .rules) (u .globals) stack₁ out₁ marks₁ r (whole deeper)
+      d = ended .0
+
+      abbrev o : Opened (deeper .levels) (r .levels) (deeper .start) (whole deeper)
+      o = ended .1
+
       -- it came back, and the caller goes on
       pub came-back : r .how ≡ Back → Here (remarked u marks₁) stack₁ out₁ (r .st) j
       unfolding resume
@@ -303,11 +313,33 @@ module _ (u : Setup) (stack out : List ℕ) (s : State) (i : ℕ) (h : Here u st
             now = closed (whole deeper .state);
             repr = repr-closed u stack₁ out₁ (r .st) (whole deeper .state) (d .on is-back);
             marked = d .marked;
+            open-is = ap (drop 1) (o .open-is ∙ ap (λ (l : List Entering). l ++ (entering ∷ h .now .within)) (o .all-closed is-back)) ∙ h .open-is;
             rest = x .1 .1 ∙ ap (resume (λ y. onwards u (x .0) (drop j (u .cs)) y) (whole deeper)) is-back;
           }
 
       -- it ended everything, or was refused
-      pub passed-on : (r .how ≡ Back → ⊥) → Done (u .rules) (u .globals) stack₁ out₁ marks₁ r (whole u)
-      passed-on n =
-          let same : whole u ≡ whole deeper = resumed .1 .1 ∙ resume-stays _ (whole deeper) (λ z. n (how-back (r .how) (d .how ∙ z))) in
-          subst (Done (u .rules) (u .globals) stack₁ out₁ marks₁ r) (sym same) d
+      module _ (n : r .how ≡ Back → ⊥) where
+        pub same-run : whole u ≡ whole deeper
+        same-run = resumed .1 .1 ∙ resume-stays _ (whole deeper) (λ z. n (how-back (r .how) (d .how ∙ z)))
+
+        -- and its call is still open, around those that are open in it
+        abbrev pub still-open : List Entering
+        still-open = o .newer ++ (entering ∷ [])
+
+        pub passed-on : (f : Finishes u stack₁ out₁ marks₁ r) × (f .1 .newer ≡ still-open)
+        passed-on = (
+          (
+            subst (Done (u .rules) (u .globals) stack₁ out₁ marks₁ r) (sym same-run) d,
+            record {
+              newer = still-open;
+              open-is =
+                  ap (λ (x : Run). x .state .within) same-run ∙ o .open-is ∙ ap (λ (l : List Entering). o .newer ++ (entering ∷ l)) (h .open-is)
+                  ∙ sym (append-assoc (o .newer) (entering ∷ []) (u .start .within));
+              deep =
+                  let q = o .deep in
+                  omega (arith, length-append (o .newer) (entering ∷ []), some-level (u .levels) (found .levels-left));
+              all-closed = λ z. absurd (n (how-back (r .how) (d .how ∙ sym (ap (λ (x : Run). x .how) same-run) ∙ z)));
+            },
+          ),
+          refl,
+        )

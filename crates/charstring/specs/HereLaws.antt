@@ -96,6 +96,7 @@ module _ (u : Setup) where
         now = u .start;
         repr = r;
         marked = m;
+        open-is = refl;
         rest = read-is (u .levels) (u .cs) (u .start);
       }
 
@@ -148,9 +149,9 @@ module _ (u : Setup) (stack out : List ℕ) (s : State) (i : ℕ) (h : Here u st
 
   -- the token leads on to j
   pub goes-on : (j : ℕ) (t : Now) (stack₁ out₁ : List ℕ) (s₁ : State) → i < j → j ≤ length (u .cs) → stepped ≡ go (drop j (u .cs)) t
-      → Repr (u .rules) stack₁ out₁ s₁ t → Says (u .globals) (u .marks) (t .shown) → Here u stack₁ out₁ s₁ j
+      → Repr (u .rules) stack₁ out₁ s₁ t → Says (u .globals) (u .marks) (t .shown) → t .within ≡ h .now .within → Here u stack₁ out₁ s₁ j
   unfolding after
-  goes-on j t stack₁ out₁ s₁ l m e r says =
+  goes-on j t stack₁ out₁ s₁ l m e r says still =
       let a = after-step (omega arith) in
       record {
         entries = h .entries;
@@ -160,6 +161,7 @@ module _ (u : Setup) (stack out : List ℕ) (s : State) (i : ℕ) (h : Here u st
         now = t;
         repr = r;
         marked = says;
+        open-is = still ∙ h .open-is;
         rest = a .1 .1 ∙ ap (behind (a .0)) e;
       }
 

@@ -1,9 +1,11 @@
 pub mod Words
 pub mod Marks
+pub mod Notes
 pub mod States
 pub mod Run
 pub mod WordsLaws
 pub mod MarksLaws
+pub mod NotesLaws
 pub mod AdvanceLaws
 pub mod LookLaws
 pub mod HereLaws

@@ -2,28 +2,33 @@
 use mathlib.Core.Path.{_≡_, refl, sym, ap, subst, _∙_}
 use mathlib.Core.Bool.{Bool}
 use mathlib.Core.List.{List}
-use Prim.Native.Nat.{ℕ, _-_, _≤_, _<_}
+use Prim.Native.Nat.{ℕ, zero, suc, _+_, _-_, _≤_, _<_}
 use native.Mathlib.Omega.{arith}
 use lib.ListN.{length, getD, take, drop}
 use Rattle.number.specs.Number.{charstringRows}
 use Rattle.number.specs.Written.{spelling}
+use Rattle.number.specs.AnswerLaws.{accepted-same}
 use Rattle.number.specs.Call.{callee}
 use Rattle.number.specs.declared.Operand.{Operand}
 use Rattle.reading.specs.Rules.{meant}
 use Rattle.reading.specs.Lists.{chosen, listsOf}
 use Rattle.reading.specs.Tokens.{Bytes}
-use Rattle.reading.specs.Reading.{State as Now}
+use Rattle.reading.specs.Reading.{Entering, Ending as How, stopped, State as Now}
+use Rattle.reading.specs.Answers.{numberOf}
+use Rattle.reading.specs.Explained.{openBy}
 use Rattle.reading.specs.SameGlyphLaws.{lists-bytes}
 use Rattle.reading.specs.declared.Refusal.{Refusal}
 use Rattle.reading.specs.declared.Which.{Which}
 use Rattle.reading.specs.declared.Which.the-variants.{Local, Global}
 use Rattle.charstring.specs.Words.{unpackOf, aimed, targetOf, Names}
 use Rattle.charstring.specs.Marks.{bitOf, markedAt, Says}
+use Rattle.charstring.specs.Notes.{noteAt, noted}
+use Rattle.charstring.specs.NotesLaws.{nothing-noted, unless-refused, noted-around, call-place}
 use Rattle.charstring.specs.States.{entered}
-use Rattle.charstring.specs.Run.{CallsAt, Repr, Here, Roomy, Reached, Standing, StretchesTo}
+use Rattle.charstring.specs.Run.{CallsAt, Repr, howOf, Setup, whole, Here, Finishes, notes, Roomy, Reached, Standing, StretchesTo}
 use Rattle.charstring.specs.Run.{chosenCount, Setting, Sound, grounded, around, RunsTo}
 use Rattle.charstring.specs.HereLaws.{begin}
-use Rattle.charstring.specs.EnterLaws.{Named, by-no, found, deeper, inner-marks, inner-repr, index-fits, came-back, passed-on}
+use Rattle.charstring.specs.EnterLaws.{Named, by-no, found, entering, deeper, inner-marks, inner-repr, index-fits, came-back, passed-on}
 use Rattle.charstring.specs.StretchLaws.{Safe, safe-here}
 use Rattle.charstring.specs.declared.state.State.{State}
 use Rattle.charstring.specs.declared.look.Limits.{Limits}
@@ -39,7 +44,24 @@ use Rattle.charstring.specs.declared.subroutines.Target.the-variants.{En
 other-list : {A : Type 0} → Local ≡ Global → A
 other-list e = let z : _≡_ {A = ℕ} 0 1 = cc in absurd (omega arith)
 
-module _ (cs globals locals : List ℕ) (by : Limits) (levels : ℕ) (stack₀ out₀ marks₀ : List ℕ) (s₀ : State) where
+pub ended-goes : (e : Ending) → e ≡ Ended → e ≡ Back → ⊥
+ended-goes e p q = let w : _≡_ {A = ℕ} 0 1 = cc in omega arith
+
+pub refused-goes : (e : Ending) (k : Refusal) → e ≡ Refused k → e ≡ Back → ⊥
+refused-goes e k p q = let w : _≡_ {A = ℕ} 0 1 = cc in omega arith
+
+pub ended-no-refusal : (e : Ending) (k : ℕ) → e ≡ Ended → howOf e ≡ stopped k → ⊥
+ended-no-refusal e k p q = let w : _≡_ {A = ℕ} 0 1 = cc in omega arith
+
+pub back-no-refusal : (e : Ending) (k : ℕ) → e ≡ Back → howOf e ≡ stopped k → ⊥
+back-no-refusal e k p q = let w : _≡_ {A = ℕ} 0 1 = cc in omega arith
+
+-- one level fewer is one call more
+one-deeper : (top levels : ℕ) → levels ≤ top → (levels ≡ 0 → ⊥) → top - (levels - 1) ≡ top - levels + 1
+one-deeper top zero h n = absurd (n refl)
+one-deeper top (suc levels) h n = omega arith
+
+module _ (cs globals locals : List ℕ) (by : Limits) (levels : ℕ) (stack₀ out₀ marks₀ words₀ : List ℕ) (s₀ : State) where
   -- what is asked of each state of the reading that the first state and marks stand for
   abbrev pub Each : (Now → Type 0) → Type 0
   Each P = (t : Now) → Repr (meant (by .rules)) stack₀ out₀ s₀ t → Says (by .globals) marks₀ (t .shown) → P t
@@ -48,8 +70,14 @@ module _ (cs globals locals : List ℕ) (by : Limits) (levels : ℕ) (stack₀ o
   abbrev pub Stands : List ℕ → List ℕ → List ℕ → State → ℕ → Type 0
   Stands stack out marks s i = Each (λ t. Here (around cs globals locals by levels t marks) stack out s i)
 
-  abbrev pub Gives : Ran → List ℕ → List ℕ → List ℕ → Type 0
-  Gives r stack out marks = RunsTo cs globals locals by s₀ stack₀ out₀ marks₀ levels r stack out marks
+  abbrev pub Gives : Ran → List ℕ → List ℕ → List ℕ → List ℕ → Type 0
+  Gives r stack out marks words = RunsTo cs globals locals by s₀ stack₀ out₀ marks₀ words₀ levels r stack out marks words
+
+  -- a string that ends in itself notes nothing
+  ends-here : (u : Setup) (stack out marks words : List ℕ) (r : Ran) (around : ℕ) → r .levels ≡ u .levels → words ≡ words₀
+      → Finishes u stack out marks r → (e : Finishes u stack out marks r) × (words ≡ notes around words₀ u (e .1 .newer))
+  ends-here u stack out marks words r around same are e =
+      (e, are ∙ sym (nothing-noted words₀ around (e .1 .newer) (whole u .how) (let q = e .1 .deep in omega arith)))
 
   pub begins : Bytes cs → Bytes globals → Bytes locals → Stands stack₀ out₀ marks₀ s₀ 0
   begins b g l = λ t r m.
@@ -84,11 +112,12 @@ module _ (cs globals locals : List ℕ) (by : Limits) (levels : ℕ) (stack₀ o
 
     -- a stretch from there that ended the string
     pub arm-done : (r : Stretched) (stack₁ out₁ : List ℕ) → StretchesTo cs by stack out s i r stack₁ out₁
-        → (how : Ending) → r .stop ≡ Finished how
-        → Gives (record { how = how; st = r .st }) stack₁ out₁ marks
+        → (how : Ending) → r .stop ≡ Finished how → (words : List ℕ) → words ≡ words₀
+        → Gives (record { how = how; st = r .st; levels = levels }) stack₁ out₁ marks words
     unfolding StretchesTo RunsTo
-    arm-done r stack₁ out₁ d how e = λ t p m.
-        subst (λ (x : Stop). Reached cs by (grounded globals locals by levels t marks) i stack₁ out₁ (r .st) x) e (d _ (h .stands t p m))
+    arm-done r stack₁ out₁ d how e words are = λ t p m.
+        ends-here (around cs globals locals by levels t marks) stack₁ out₁ marks words _ _ refl are
+        (subst (λ (x : Stop). Reached cs by (grounded globals locals by levels t marks) i stack₁ out₁ (r .st) x) e (d _ (h .stands t p m)))
 
   -- ---- a stretch that stands before a call, with the state r
 
@@ -156,9 +185,12 @@ module _ (cs globals locals : List ℕ) (by : Limits) (levels : ℕ) (stack₀ o
         by-which Local = record { is-list = refl; is-count = b .setting .local-count; is-globals = λ e. other-list e }
         by-which Global = record { is-list = refl; is-count = b .setting .global-count; is-globals = λ e. refl }
 
-    pub arm-no : (k : Refusal) → Aims (No k) → Gives (record { how = Refused k; st = r }) stack out marks
+    pub arm-no : (k : Refusal) → Aims (No k) → (words : List ℕ) → words ≡ words₀
+        → Gives (record { how = Refused k; st = r; levels = levels }) stack out marks words
     unfolding RunsTo
-    arm-no k e = λ t p m. let x = b .stands t p m in by-no _ stack out r (x .0) (x .2) w next (x .3) list-of (chosenCount w by) (named t) k e
+    arm-no k e words are = λ t p m.
+        let x = b .stands t p m in
+        ends-here (around cs globals locals by levels t marks) stack out marks words _ _ refl are (by-no _ stack out r (x .0) (x .2) w next (x .3) list-of (chosenCount w by) (named t) k e)
 
     module _ (k from to : ℕ) (e : Aims (Enter k from to)) (e′ : Numbered (Enter k from to)) where
       abbrev pub body-of : List ℕ
@@ -206,31 +238,89 @@ module _ (cs globals locals : List ℕ) (by : Limits) (levels : ℕ) (stack₀ o
             (_, inner (sound .0) (sound .1) (sound .2), inner-says (sound .0) (sound .1) (sound .2))
 
         module _ (list : List ℕ) (its : list ≡ list-of) (marked : List ℕ) (is-marked : marked ≡ with-mark)
-            (r₁ : Ran) (stack₁ out₁ marks₁ : List ℕ)
-            (ran : RunsTo (take (to - from) (drop from list)) globals locals by s stack out marked (levels - 1) r₁ stack₁ out₁ marks₁) where
-          ran-there : RunsTo body-of globals locals by s stack out with-mark (levels - 1) r₁ stack₁ out₁ marks₁
+            (words : List ℕ) (same-words : words ≡ words₀) (r₁ : Ran) (stack₁ out₁ marks₁ words₁ : List ℕ)
+            (ran : RunsTo (take (to - from) (drop from list)) globals locals by s stack out marked words (levels - 1) r₁ stack₁ out₁ marks₁ words₁) where
+          abbrev Runs : List ℕ → List ℕ → List ℕ → Type 0
+          Runs l m v = RunsTo (take (to - from) (drop from l)) globals locals by s stack out m v (levels - 1) r₁ stack₁ out₁ marks₁ words₁
+
+          ran-there : Runs list-of with-mark words₀
           ran-there =
-              subst
-              (λ (l : List ℕ). RunsTo (take (to - from) (drop from l)) globals locals by s stack out with-mark (levels - 1)
-              r₁ stack₁ out₁ marks₁) its
-              (subst
-              (λ (l : List ℕ). RunsTo (take (to - from) (drop from list)) globals locals by s stack out l (levels - 1)
-              r₁ stack₁ out₁ marks₁)
-              is-marked ran)
+              subst (λ (l : List ℕ). Runs l with-mark words₀) its
+              (subst (λ (l : List ℕ). Runs list l words₀) is-marked (subst (Runs list marked) same-words ran))
+
+          module _ (t : Now) (p : Repr (meant (by .rules)) stack₀ out₀ s₀ t) (m : Says (by .globals) marks₀ (t .shown)) where
+            abbrev inner-setup : Setup
+            inner-setup =
+                let x = b .stands t p m in
+                deeper (around cs globals locals by levels t marks) stack out r (x .0) (x .2) w next (x .3) list-of (chosenCount w by)
+                (named t) k from to e e′
+
+            inner-ran : (f : Finishes inner-setup stack₁ out₁ marks₁ r₁)
+                × (words₁ ≡ notes (by .rules .levels - (levels - 1)) words₀ inner-setup (f .1 .newer))
+            unfolding RunsTo
+            inner-ran = ran-there _ (inner t p m) (inner-says t p m)
 
           pub arm-back : r₁ .how ≡ Back → Stands stack₁ out₁ marks₁ (r₁ .st) next
-          unfolding RunsTo
           arm-back c = λ t p m.
               let x = b .stands t p m in
               came-back _ stack out r (x .0) (x .2) w next (x .3) list-of (chosenCount w by)
-              (named t) k from to e e′ r₁ stack₁ out₁ marks₁ (ran-there _ (inner t p m) (inner-says t p m)) c
+              (named t) k from to e e′ r₁ stack₁ out₁ marks₁ (inner-ran t p m .0) c
 
-          pub arm-passed : (r₁ .how ≡ Back → ⊥) → Gives r₁ stack₁ out₁ marks₁
+          -- where it comes back or ends everything, nothing is noted
+          pub words-stay : (c : (k : ℕ) → howOf (r₁ .how) ≡ stopped k → ⊥) → words₁ ≡ words₀
+          unfolding Sound
+          words-stay c =
+              let f = inner-ran (b .sound .0) (b .sound .1) (b .sound .2) in
+              f .1 ∙ unless-refused words₀ _ (f .0 .1 .newer) _ (λ k z. c k (f .0 .0 .how ∙ z))
+
+          pub arm-ended : r₁ .how ≡ Ended → Gives r₁ stack₁ out₁ marks₁ words₁
           unfolding RunsTo
-          arm-passed n = λ t p m.
+          arm-ended c = λ t p m.
               let x = b .stands t p m in
+              let f = inner-ran t p m in
+              let g =
               passed-on _ stack out r (x .0) (x .2) w next (x .3) list-of (chosenCount w by)
-              (named t) k from to e e′ r₁ stack₁ out₁ marks₁ (ran-there _ (inner t p m) (inner-says t p m)) n
+              (named t) k from to e e′ r₁ stack₁ out₁ marks₁ (f .0) (ended-goes (r₁ .how) c) .0 in (
+                g,
+                words-stay (λ k z. ended-no-refusal (r₁ .how) k c z)
+                    ∙ sym (unless-refused words₀ _ (g .1 .newer) _ (λ k z. ended-no-refusal (r₁ .how) k c (g .0 .how ∙ z))),
+              )
+
+          -- where it is refused, the call is noted before those that are open in it
+          pub arm-refused : (v : Refusal) → r₁ .how ≡ Refused v → levels ≤ by .rules .levels → (words₂ : List ℕ)
+              → words₂ ≡ noteAt words₁ (by .rules .levels - levels) w k (next - 1) → Gives r₁ stack₁ out₁ marks₁ words₂
+          unfolding RunsTo
+          arm-refused v c deep words₂ noted-so = λ t p m.
+              let x = b .stands t p m in
+              let f = inner-ran t p m in
+              let u = around cs globals locals by levels t marks in
+              let ends-so =
+              passed-on u stack out r (x .0) (x .2) w next (x .3) list-of (chosenCount w by)
+              (named t) k from to e e′ r₁ stack₁ out₁ marks₁ (f .0) (refused-goes (r₁ .how) v c) in
+              let g = ends-so .0 in
+              let here =
+              entering u stack out r (x .0) (x .2) w next (x .3) list-of (chosenCount w by) (named t) k from to e e′ in
+              let there =
+              found u stack out r (x .0) (x .2) w next (x .3) list-of (chosenCount w by) (named t) k from to e e′ in
+              let stop : whole u .how ≡ stopped (numberOf v) = sym (g .0 .how) ∙ ap howOf c in
+              let stop-in : whole (inner-setup t p m) .how ≡ stopped (numberOf v) = sym (f .0 .0 .how) ∙ ap howOf c in
+              let placed : here .at ≡ next - 1 =
+              call-place (by .rules .ends) (x .3 .0) w cs (x .0) next (x .3 .2) (x .3 .1 .cut-is) (x .3 .1 .begun .inside) in
+              let numbered : k ≡ here .entry = accepted-same (sym e′ ∙ there .names) in (
+                g,
+                noted-so
+                    ∙ ap (λ (l : List ℕ). noteAt l (by .rules .levels - levels) w k (next - 1)) (f .1
+                    ∙ ap (λ (h : How). noted words₀ (by .rules .levels - (levels - 1)) (openBy (f .0 .1 .newer) h)) stop-in
+                    ∙ ap (λ (n : ℕ). noted words₀ n (openBy (f .0 .1 .newer) (stopped (numberOf v))))
+                    (one-deeper (by .rules .levels) levels deep (there .levels-left)))
+                    ∙ ap (λ (n : ℕ). noteAt (noted words₀ (by .rules .levels - levels + 1) (openBy (f .0 .1 .newer) (stopped (numberOf v))))
+                    (by .rules .levels - levels) w n (next - 1)) numbered
+                    ∙ ap (λ (n : ℕ). noteAt (noted words₀ (by .rules .levels - levels + 1) (openBy (f .0 .1 .newer) (stopped (numberOf v))))
+                    (by .rules .levels - levels) w (here .entry) n) (sym placed)
+                    ∙ noted-around words₀ (by .rules .levels - levels) (f .0 .1 .newer) here (numberOf v)
+                    ∙ ap (λ (l : List Entering). noted words₀ (by .rules .levels - levels) (openBy l (stopped (numberOf v)))) (sym (ends-so .1))
+                    ∙ ap (λ (h : How). noted words₀ (by .rules .levels - levels) (openBy (g .1 .newer) h)) (sym stop),
+              )
 
 -- ---- what the code found, in these words
 
@@ -248,9 +338,3 @@ pub names-at : (exact : Bool) (n n′ : ℕ) (o o′ : Operand) (r x : Target) �
 names-at exact n n′ o o′ r x e₁ e₂ e₃ q =
     subst (Names (callee exact n′ o′)) e₃
     (subst (λ (y : Operand). Names (callee exact n′ y) r) e₂ (subst (λ (y : ℕ). Names (callee exact y o) r) e₁ q))
-
-pub ended-goes : (e : Ending) → e ≡ Ended → e ≡ Back → ⊥
-ended-goes e p q = let w : _≡_ {A = ℕ} 0 1 = cc in omega arith
-
-pub refused-goes : (e : Ending) (k : Refusal) → e ≡ Refused k → e ≡ Back → ⊥
-refused-goes e k p q = let w : _≡_ {A = ℕ} 0 1 = cc in omega arith

@@ -14,8 +14,9 @@ use Rattle.reading.specs.Rules.{Rules, meant}
 use Rattle.reading.specs.Lists.{Lists, countIn, listsOf}
 use Rattle.reading.specs.Tokens.{Bytes, number, operator, token, cut}
 use Rattle.reading.specs.Items.{Item, operand, bare, masked, Left, said}
-use Rattle.reading.specs.Reading.{struck, Ending as How, back, ended, stopped, Run, State as Now, refuse, onOperator, onToken, tokensOf, read}
+use Rattle.reading.specs.Reading.{Entering, struck, Ending as How, back, ended, stopped, Run, State as Now, refuse, onOperator, onToken, tokensOf, read}
 use Rattle.reading.specs.Flat.{flat}
+use Rattle.reading.specs.Explained.{openBy}
 use Rattle.reading.specs.Answers.{numberOf}
 use Rattle.reading.specs.Valid.{ByteLists, Good}
 use Rattle.reading.specs.declared.Rules.{Rules as CodeRules}
@@ -30,6 +31,7 @@ use Rattle.reading.specs.declared.Which.the-variants.{Local, Global}
 use Rattle.reading.specs.declared.Kind.the-variants.{Stem, Clear, Mask, Call, Return, End}
 use Rattle.charstring.specs.Words.{shortOf, stackOf, heldBy}
 use Rattle.charstring.specs.Marks.{Says}
+use Rattle.charstring.specs.Notes.{noted}
 use Rattle.charstring.specs.declared.state.State.{State}
 use Rattle.charstring.specs.declared.look.Limits.{Limits}
 use Rattle.charstring.specs.declared.look.Request.{Request}
@@ -217,6 +219,7 @@ pub record Here (u : Setup) (stack out : List ℕ) (s : State) (i : ℕ) : Type 
   pub now : Now
   pub repr : Repr (u .rules) stack out s now
   pub marked : Says (u .globals) (u .marks) (now .shown)
+  pub open-is : now .within ≡ u .start .within
   pub rest : whole u ≡ onwards u fuel (drop i (u .cs)) now
 
 -- ---- how a run ends
@@ -230,6 +233,22 @@ pub record Done (rules : Rules) (globals : ℕ) (stack₁ out₁ marks₁ : List
   pub advance-is : x .state .left .advance ≡ heldBy (r .st)
   pub marked : Says globals marks₁ (x .state .shown)
   pub on : x .how ≡ back → Repr rules stack₁ out₁ (r .st) (x .state)
+
+-- how deep a string ended that began with so many levels, and with so many left: the calls that are open in it, the innermost first, before those
+-- that were open at its start
+pub record Opened (levels left : ℕ) (start : Now) (x : Run) : Type 0 where
+  pub newer : List Entering
+  pub open-is : x .state .within ≡ newer ++ start .within
+  pub deep : length newer + left ≡ levels
+  pub all-closed : x .how ≡ back → newer ≡ []
+
+-- what a run of the code leaves of a string
+abbrev pub Finishes : Setup → List ℕ → List ℕ → List ℕ → Ran → Type 0
+Finishes u stack₁ out₁ marks₁ r = Done (u .rules) (u .globals) stack₁ out₁ marks₁ r (whole u) × Opened (u .levels) (r .levels) (u .start) (whole u)
+
+-- the words as it leaves them, where so many calls are around the string
+abbrev pub notes : ℕ → List ℕ → Setup → List Entering → List ℕ
+notes around words u newer = noted words around (openBy newer (whole u .how))
 
 -- the code's numbers have room in their types and in the stack
 pub record Roomy (rules : CodeRules) (stack : List ℕ) : Type 0 where
@@ -266,8 +285,7 @@ module _ (cs : List ℕ) (by : Limits) where
 
   -- the string ended, or a call stands at some place
   abbrev pub Reached : Ground → ℕ → List ℕ → List ℕ → State → Stop → Type 0
-  Reached g from stack out st (Finished how) =
-      Done (meant (by .rules)) (by .globals) stack out (g .marks) (record { how = how; st = st }) (whole (upon g))
+  Reached g from stack out st (Finished how) = Finishes (upon g) stack out (g .marks) (record { how = how; st = st; levels = g .levels })
   Reached g from stack out st (Calling next w) =
       (i : ℕ) × (from ≤ i) × Here (upon g) stack out st i × CallsAt (meant (by .rules)) cs i (by .budget) st next w
 
@@ -309,8 +327,9 @@ abbrev pub around : List ℕ → List ℕ → List ℕ → Limits → ℕ → No
 around cs globals locals by levels t marks = upon cs by (grounded globals locals by levels t marks)
 
 -- whatever state of the reading the state and the marks stand for, the run is the reading's
-unfoldable pub RunsTo : List ℕ → List ℕ → List ℕ → Limits → State → List ℕ → List ℕ → List ℕ
-    → ℕ → Ran → List ℕ → List ℕ → List ℕ → Type 0
-RunsTo cs globals locals by s stack out marks levels r stack₁ out₁ marks₁ =
+unfoldable pub RunsTo : List ℕ → List ℕ → List ℕ → Limits → State → List ℕ → List ℕ → List ℕ → List ℕ
+    → ℕ → Ran → List ℕ → List ℕ → List ℕ → List ℕ → Type 0
+RunsTo cs globals locals by s stack out marks words levels r stack₁ out₁ marks₁ words₁ =
     (t : Now) → Repr (meant (by .rules)) stack out s t → Says (by .globals) marks (t .shown)
-    → Done (meant (by .rules)) (by .globals) stack₁ out₁ marks₁ r (whole (around cs globals locals by levels t marks))
+    → let u = around cs globals locals by levels t marks in
+    (e : Finishes u stack₁ out₁ marks₁ r) × (words₁ ≡ notes (by .rules .levels - levels) words u (e .1 .newer))

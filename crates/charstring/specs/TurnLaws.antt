@@ -99,7 +99,7 @@ module _ (u : Setup) (stack out : List ℕ) (s : State) (i : ℕ) (h : Here u st
         advance-is = r .held .advance-is;
       })
       (r .hinted) refl (ap (λ (n : ℕ). n + 1) (sym (r .tail-is)) ∙ add-one _) long)
-      (says-item _ _ _ (h .marked) (operand o))
+      (says-item _ _ _ (h .marked) (operand o)) refl
 
   -- ---- operators
 
@@ -148,7 +148,7 @@ module _ (u : Setup) (stack out : List ℕ) (s : State) (i : ℕ) (h : Here u st
         (emitted (u .rules) stack out s (h .now) (h .repr) (bare p) _ stack out₁ (cleared s hints length₁ w) is (led u stack out s i h _ g .1)
         (stored (u .rules) stack out s (h .now) (h .repr) (operatorBytes p) out₁ d) zero-le
         (settles w stack (cleared s hints length₁ w) y v ops hs mask refl refl) hinted refl refl long)
-        (says-item _ _ _ (h .marked) (bare p))
+        (says-item _ _ _ (h .marked) (bare p)) refl
 
     pub by-clear : (j hints length₁ : ℕ) (w : Settled) (out₁ : List ℕ) → AtOperator (u .cs) i j (s .tokens) (u .budget) p
         → Hinted (u .rules) s p hints → Settles w → out₁ ≡ sets out (s .length) (operatorBytes p)
@@ -191,7 +191,7 @@ module _ (u : Setup) (stack out : List ℕ) (s : State) (i : ℕ) (h : Here u st
         (stored (u .rules) stack out s (h .now) (h .repr) (operatorBytes p ++ m) out₁ d) room
         (settles w stack (masked s c hints (b - a) length₁ w) now-fixed v ops hs ms refl refl) most refl refl
         (let e = length-append (operatorBytes p) m in omega arith))
-        (says-item _ _ _ (h .marked) (mask-of p m))
+        (says-item _ _ _ (h .marked) (mask-of p m)) refl
 
     pub by-mask : (a b c hints length₁ : ℕ) (w : Settled) (out₁ : List ℕ) → AtOperator (u .cs) i a (s .tokens) (u .budget) p
         → u .rules .kind p ≡ Mask → hints ≤ u .rules .hints → a ≤ b → b ≤ length (u .cs) → MaskFixed (u .rules) s c hints (b - a)

@@ -1,23 +1,24 @@
 -- What `draft`, `write` and `flatten` answer, from what `run` ensures. Assumes nothing.
 use mathlib.Core.Path.{_≡_, refl, sym, ap, subst, _∙_}
 use mathlib.Core.Bool.{Bool, true, false, cond}
-use mathlib.Core.List.{List, _++_}
-use Prim.Native.Nat.{ℕ, _≤_, _<_, zero-le}
-use native.Mathlib.Nat.{lt-of-le-of-lt}
+use mathlib.Core.List.{List, _++_, append-nil}
+use Prim.Native.Nat.{ℕ, _-_, _≤_, _<_, zero-le}
+use native.Mathlib.Nat.{le-refl, lt-of-le-of-lt}
 use native.Mathlib.Omega.{arith}
 use lib.Dec.{leb, lit≤}
-use lib.ListN.{length, take, drop}
+use lib.ListN.{length, take, drop, length-reverse}
 use lib.Seq.{length-take-le, take-all}
 use Rattle.number.specs.Answer.{Values, Answer, accepted, refused, alone, atToken, needingAt, leaving, Ready, into}
 use Rattle.number.specs.AnswerLaws.{refused-accepted, accepted-same, mapped-refused, into-fits, into-short}
 use Rattle.reading.specs.Rules.{Rules, rulesOf, meant}
 use Rattle.reading.specs.Lists.{subrsOf, listsOf}
 use Rattle.reading.specs.Items.{leftBy}
-use Rattle.reading.specs.Reading.{struck, start, Ending as How, back, stopped, Run, tokensBy, tokens, reading, original}
+use Rattle.reading.specs.Reading.{Entering, struck, start, Ending as How, back, stopped, Run, tokensBy, tokens, reading, original}
 use Rattle.reading.specs.Valid.{none}
 use Rattle.reading.specs.Flat.{flat}
 use Rattle.reading.specs.Answers.{Flattening, flatOf, flatReady, readyBy, judged, toldIn, verdict, outcome, numberOf, comesWith, stopNumber, stopValues}
 use Rattle.reading.specs.Entered.{enteredBy}
+use Rattle.reading.specs.Explained.{openBy, openCalls, wordsLeft}
 use Rattle.reading.specs.AnswerLaws.{AcceptedBy, came-to-end, Judged, takes, turns-down, judged-so, judged-accepted, accepted-tokens}
 use Rattle.reading.specs.declared.Rules.{Rules as CodeRules}
 use Rattle.reading.specs.declared.Profile.{Profile}
@@ -30,8 +31,10 @@ use Rattle.charstring.specs.Words.{stackOf, heldBy}
 use Rattle.charstring.specs.WordsLaws.{begins-none, begins-take}
 use Rattle.charstring.specs.Marks.{marksOf, Says, Clear, runMarks}
 use Rattle.charstring.specs.MarksLaws.{says-none}
+use Rattle.charstring.specs.Notes.{noted, Tells}
+use Rattle.charstring.specs.NotesLaws.{unrefused, noted-all}
 use Rattle.charstring.specs.States.{begun}
-use Rattle.charstring.specs.Run.{Begins, tailOf, Repr, howOf, Done, stopAs, Roomy, countOf, Setting, Sound, RunsTo}
+use Rattle.charstring.specs.Run.{Begins, tailOf, Repr, howOf, Setup, Done, Finishes, notes, stopAs, Roomy, countOf, Setting, Sound, around, RunsTo}
 use Rattle.charstring.specs.declared.state.State.{State}
 use Rattle.charstring.specs.declared.look.Limits.{Limits}
 use Rattle.charstring.specs.declared.stretch.Ending.the-variants.{Back, Ended, Refused}
@@ -66,19 +69,59 @@ module _ (rules : CodeRules) (stack out marks : List ℕ) (clear : Clear marks) 
   sound = (start, begun-here, says-none _ marks clear)
 
   -- what a run from the first token asks
-  pub ready : Roomy rules stack → Setting globals locals by stack × Sound by stack out marks s
+  pub ready : Roomy rules stack → Setting globals locals by stack × (Sound by stack out marks s × (rules .levels ≤ by .rules .levels))
   ready h =
-      subst (λ (l : Limits). Setting globals locals l stack × Sound l stack out marks s) (sym limits)
-      (record { roomy = h; global-count = refl; local-count = refl }, sound)
+      subst (λ (l : Limits). Setting globals locals l stack × (Sound l stack out marks s × (rules .levels ≤ l .rules .levels))) (sym limits)
+      (record { roomy = h; global-count = refl; local-count = refl }, (sound, le-refl (rules .levels)))
 
-  -- the run of the code is the reading's
-  pub done : (cs : List ℕ) (r : Ran) (stack₁ out₁ marks₁ : List ℕ)
-      → RunsTo cs globals locals by s stack out marks (rules .levels) r stack₁ out₁ marks₁
-      → Done (meant rules) (countOf rules globals) stack₁ out₁ marks₁ r (original (meant rules) cs globals locals budget)
-  unfolding RunsTo reading
-  done cs r stack₁ out₁ marks₁ runs =
-      subst (λ (l : Limits). RunsTo cs globals locals l s stack out marks (rules .levels) r stack₁ out₁ marks₁) limits runs start
-      begun-here (says-none _ marks clear)
+  module _ (cs words : List ℕ) (r : Ran) (stack₁ out₁ marks₁ words₁ : List ℕ)
+      (runs : RunsTo cs globals locals by s stack out marks words (rules .levels) r stack₁ out₁ marks₁ words₁) where
+    abbrev at-first : Setup
+    at-first = around cs globals locals (limitsOf rules budget globals locals) (rules .levels) start marks
+
+    ran : (e : Finishes at-first stack₁ out₁ marks₁ r) × (words₁ ≡ notes (rules .levels - rules .levels) words at-first (e .1 .newer))
+    unfolding RunsTo
+    ran =
+        subst (λ (l : Limits). RunsTo cs globals locals l s stack out marks words (rules .levels) r stack₁ out₁ marks₁ words₁) limits runs start
+        begun-here (says-none _ marks clear)
+
+    -- the run of the code is the reading's
+    pub done : Done (meant rules) (countOf rules globals) stack₁ out₁ marks₁ r (original (meant rules) cs globals locals budget)
+    unfolding reading
+    done = ran .0 .0
+
+    abbrev the-run : Run
+    the-run = original (meant rules) cs globals locals budget
+
+    -- the calls open where it ended are those that it notes
+    all-open : openCalls the-run ≡ openBy (ran .0 .1 .newer) (the-run .how)
+    unfolding reading
+    all-open = ap (λ (l : List Entering). openBy l (the-run .how)) (ran .0 .1 .open-is ∙ append-nil (ran .0 .1 .newer))
+
+    words-so : words₁ ≡ wordsLeft words (openCalls the-run)
+    unfolding reading
+    words-so =
+        ran .1 ∙ ap (λ (n : ℕ). noted words n (openBy (ran .0 .1 .newer) (the-run .how))) (let e : rules .levels - rules .levels ≡ 0 = omega arith in e)
+        ∙ noted-all words _ ∙ ap (wordsLeft words) (sym all-open)
+
+    pub tells-none : ((k : ℕ) → howOf (r .how) ≡ stopped k → ⊥) → Tells the-run words 0 words₁
+    tells-none n = record { count-is = ap length (sym (unrefused (the-run .state .within) (the-run .how) (λ k z. n k (done .how ∙ z)))); words-are = words-so }
+
+    pub tells-open : (k : Refusal) → r .how ≡ Refused k → (calls : ℕ) → calls ≡ rules .levels - r .levels → Tells the-run words calls words₁
+    unfolding openBy reading
+    tells-open k e calls q =
+        record {
+          count-is =
+              let d = ran .0 .1 .deep in
+              let same : length (openCalls the-run) ≡ length (ran .0 .1 .newer) =
+              ap length all-open ∙ ap (λ (h : How). length (openBy (ran .0 .1 .newer) h)) (sym (done .how) ∙ ap howOf e) ∙ length-reverse (ran .0 .1 .newer) in
+              omega arith;
+          words-are = words-so;
+        }
+
+    -- it was left with no more levels than it began with
+    pub levels-left : r .levels ≤ rules .levels
+    levels-left = let d = ran .0 .1 .deep in omega arith
 
 -- its marks are those of the reading
 pub run-marked : (rules : CodeRules) (cs globals locals : List ℕ) (budget : ℕ) (stack₁ out₁ marks marks₁ : List ℕ) (r : Ran)

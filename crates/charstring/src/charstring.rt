@@ -2,6 +2,7 @@
 use crate::argstack::unpack;
 use crate::look::Limits;
 use crate::marks::mark;
+use crate::notes::note;
 use crate::state::State;
 use crate::state::enter;
 use crate::store::size_of;
@@ -13,10 +14,12 @@ use crate::subroutines::Target;
 use crate::subroutines::aim;
 use reading::Which;
 ghost use mathlib.Core.Path.{_≡_};
+ghost use Prim.Native.Nat.{_≤_};
 ghost use Rattle.reading.specs.Lists.{chosen};
 ghost use Rattle.charstring.specs.Run.{chosenCount, Setting, Sound, RunsTo};
 
-// Runs a charstring, and the entries that it calls, from a state, and marks the entries.
+// Runs a charstring, and the entries that it calls, from a state, and marks the entries. Where the run is
+// refused, each call that is open is noted on the way out of it.
 pub(crate) fn run<'a>(
     cs: &'a [u8],
     globals: &'a [u8],
@@ -26,12 +29,15 @@ pub(crate) fn run<'a>(
     stack: &mut [u64],
     out: &mut [u8],
     marks: &mut [u8],
+    words: &mut [u64],
     levels: u32,
 ) -> Ran
     requires { ⌜ Setting (now globals) (now locals) by (now stack) ⌝ }
     requires { ⌜ Sound by (now stack) (now out) (now marks) s ⌝ }
+    requires { ⌜ levels ≤ by .rules .levels ⌝ }
     ensures { λ r. ⌜ RunsTo (now (cs .entry)) (now (globals .entry)) (now (locals .entry)) by s
-        (now (stack .entry)) (now (out .entry)) (now (marks .entry)) levels r (now (stack .exit)) (now (out .exit)) (now (marks .exit)) ⌝ }
+        (now (stack .entry)) (now (out .entry)) (now (marks .entry)) (now (words .entry)) levels r
+        (now (stack .exit)) (now (out .exit)) (now (marks .exit)) (now (words .exit)) ⌝ }
 {
     let mut st = s;
     let mut i: usize = 0;
@@ -41,7 +47,11 @@ pub(crate) fn run<'a>(
         let stop = reached.stop;
         match stop {
             Stop::Done(how) => {
-                return Ran { how, st: here };
+                return Ran {
+                    how,
+                    st: here,
+                    levels,
+                };
             }
             Stop::Call(next, which) => {
                 let top = here.count - 1;
@@ -60,6 +70,7 @@ pub(crate) fn run<'a>(
                         return Ran {
                             how: Ending::Refused(k),
                             st: here,
+                            levels,
                         };
                     }
                     Target::Enter(k, from, to) => {
@@ -75,6 +86,7 @@ pub(crate) fn run<'a>(
                             stack,
                             out,
                             marks,
+                            words,
                             levels - 1,
                         );
                         let how = r.how;
@@ -87,6 +99,7 @@ pub(crate) fn run<'a>(
                                 return r;
                             }
                             Ending::Refused(_) => {
+                                note(words, by.rules.levels - levels, which, k, next - 1);
                                 return r;
                             }
                         }

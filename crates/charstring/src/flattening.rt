@@ -10,6 +10,7 @@ use index::IndexRead;
 use index::Width;
 use index::check_list;
 use index::read_index;
+use reading::Explained;
 use reading::Flattened;
 use reading::Profile;
 use reading::Refusal;
@@ -26,6 +27,7 @@ ghost use Rattle.reading.specs.Lists.{countIn};
 ghost use Rattle.reading.specs.Reading.{stopped, tokensBy, original};
 ghost use Rattle.reading.specs.Answers.{numberOf, flatOf, flattened, verdict, outcome, flattening};
 ghost use Rattle.charstring.specs.Marks.{Clear, runMarks};
+ghost use Rattle.charstring.specs.Notes.{Tells};
 ghost use Rattle.charstring.specs.Run.{Begins, Roomy, stopAs, countOf};
 
 // Flattens a charstring with its two subroutine lists into the start of out. A refusal changes no
@@ -156,7 +158,8 @@ fn draft_marking<'a>(
         (length (now (marks .entry))) ⌝ }
 {
     let mut stack = [0u64; 48];
-    draft_by(
+    let mut unnoted = [0u64; 0];
+    let explained = draft_by(
         cs,
         globals,
         locals,
@@ -165,11 +168,14 @@ fn draft_marking<'a>(
         &mut stack,
         held,
         marks,
-    )
+        &mut unnoted,
+    );
+    explained.verdict
 }
 
-// The same by any rules, on a stack with room for their operands.
-fn draft_by<'a>(
+// The same by any rules, on a stack with room for their operands, and with the calls that were open where the run was
+// refused.
+pub(crate) fn draft_by<'a>(
     cs: &'a [u8],
     globals: &'a [u8],
     locals: &'a [u8],
@@ -178,15 +184,18 @@ fn draft_by<'a>(
     stack: &mut [u64],
     held: &mut [u8],
     marks: &mut [u8],
-) -> Flattened
+    words: &mut [u64],
+) -> Explained
     requires { ⌜ Roomy rules (now stack) ⌝ }
     requires { ⌜ Clear (now marks) ⌝ }
-    ensures { λ r. ⌜ flattened r
+    ensures { λ r. ⌜ flattened (r .verdict)
         ≡ verdict (meant rules) (original (meant rules) (now (cs .entry)) (now (globals .entry)) (now (locals .entry)) budget) ⌝ }
     ensures { λ r. ⌜ Begins (now (held .exit))
         (flatOf (original (meant rules) (now (cs .entry)) (now (globals .entry)) (now (locals .entry)) budget)) ⌝ }
     ensures { λ r. ⌜ now (marks .exit) ≡ runMarks (meant rules) (now (cs .entry)) (now (globals .entry)) (now (locals .entry)) budget
         (length (now (marks .entry))) ⌝ }
+    ensures { λ r. ⌜ Tells (original (meant rules) (now (cs .entry)) (now (globals .entry)) (now (locals .entry)) budget)
+        (now (words .entry)) (r .calls) (now (words .exit)) ⌝ }
 {
     let by = limits_of(rules, budget, globals, locals);
     let r = run(
@@ -198,6 +207,7 @@ fn draft_by<'a>(
         stack,
         held,
         marks,
+        words,
         rules.levels,
     );
     let how = r.how;
@@ -206,12 +216,24 @@ fn draft_by<'a>(
     match how {
         Ending::Back => {
             if rules.finished {
-                return Flattened::Refused(Stopped::Alone(Refusal::NoEndchar));
+                return Explained {
+                    verdict: Flattened::Refused(Stopped::Alone(Refusal::NoEndchar)),
+                    calls: 0,
+                };
             }
-            Flattened::Accepted(st.length, st.tokens, advance)
+            Explained {
+                verdict: Flattened::Accepted(st.length, st.tokens, advance),
+                calls: 0,
+            }
         }
-        Ending::Ended => Flattened::Accepted(st.length, st.tokens, advance),
-        Ending::Refused(k) => Flattened::Refused(stopped_by(k, st.tokens)),
+        Ending::Ended => Explained {
+            verdict: Flattened::Accepted(st.length, st.tokens, advance),
+            calls: 0,
+        },
+        Ending::Refused(k) => Explained {
+            verdict: Flattened::Refused(stopped_by(k, st.tokens)),
+            calls: (rules.levels - r.levels) as usize,
+        },
     }
 }
 

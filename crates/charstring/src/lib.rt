@@ -2,10 +2,12 @@
 mod advance;
 mod argstack;
 mod charstring;
+mod explaining;
 mod flattening;
 mod look;
 mod marking;
 mod marks;
+mod notes;
 mod operator;
 mod state;
 mod store;
@@ -13,6 +15,7 @@ mod stretch;
 mod subroutines;
 mod token;
 
+pub use crate::explaining::explain;
 pub use crate::flattening::draft;
 pub use crate::flattening::flatten;
 pub use crate::flattening::measure;

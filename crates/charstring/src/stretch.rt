@@ -30,6 +30,8 @@ pub(crate) enum Ending {
 pub(crate) struct Ran {
     pub how: Ending,
     pub st: State,
+    // How many levels of calls were left where it ended.
+    pub levels: u32,
 }
 
 // Where a stretch ends: with the string, or before a call, behind which the string goes on there.

@@ -1,5 +1,5 @@
 -- The laws of cutting tokens. Assumes nothing.
-use mathlib.Core.Path.{_≡_, refl, sym, subst, _∙_}
+use mathlib.Core.Path.{_≡_, refl, sym, ap, subst, _∙_}
 use mathlib.Core.Bool.{Bool, true, false, cond}
 use mathlib.Core.List.{List, [], _∷_, _++_}
 use Prim.Native.Nat.{ℕ, suc, _+_, _<_}
@@ -11,6 +11,7 @@ use borrow.Author.Tests.{eqb-true}
 use Rattle.number.specs.Answer.{Values, Answer, accepted, refused, alone}
 use Rattle.number.specs.Number.{Number, charstringRows, Found, row, noRow, rowOf, numberBy, readBy}
 use Rattle.number.specs.NumberLaws.{read-some}
+use Rattle.number.specs.declared.Operand.{Operand}
 use Rattle.number.specs.RoundTripLaws.{read-width, read-inside, Width, one, two, three, five, Spellable, read-spellable}
 use Rattle.reading.specs.Tokens.{Bytes, Token, number, operator, token, lacking, escapedAt, operatorAt, cutBy, cut}
 use Rattle.reading.specs.Valid.{Cuttable}
@@ -151,3 +152,36 @@ cut-fewer bytes t rest q = go (readBy charstringRows bytes) refl q
         let i = read-inside false bytes x (sym e) in
         subst (λ (l : List ℕ). length l < length bytes) (rest-is t _ rest (drop (x .width) bytes) q) (omega (arith, length-drop (x .width) bytes))
     go (refused n v) e q = fewer-operator t rest bytes (eqb n 6) q
+
+-- ---- an operator that is not escaped takes one byte
+
+same-operator : (p q : Operator) (rest rest′ : List ℕ) → token (operator q) rest′ ≡ token (operator p) rest → q ≡ p
+same-operator p q rest rest′ e = cc
+
+no-operator : {A : Type 0} (o : Operand) (p : Operator) (rest rest′ : List ℕ) → token (number o) rest′ ≡ token (operator p) rest → A
+no-operator o p rest rest′ e = let z : _≡_ {A = ℕ} 0 1 = cc in absurd (omega arith)
+
+module _ (p : Operator) (rest : List ℕ) (f : p .escaped ≡ false) where
+  one-escape : {A : Type 0} (s : List ℕ) → escapedAt s ≡ token (operator p) rest → A
+  unfolding escapedAt
+  one-escape [] e = no-token (operator p) rest e
+  one-escape (b ∷ s) e = let q : true ≡ false = ap (λ (y : Operator). y .escaped) (same-operator p _ rest s e) ∙ f in let z : _≡_ {A = ℕ} 0 1 = cc in absurd (omega arith)
+
+  one-byte : (b : ℕ) (s : List ℕ) (x : Bool) → cond x (escapedAt s) (token (operator (record { escaped = false; byte = b })) s) ≡ token (operator p) rest
+      → length rest ≡ length s
+  one-byte b s true e = one-escape s e
+  one-byte b s false e = ap length (sym (rest-is (operator p) _ rest s e))
+
+  one-operator : (bytes : List ℕ) (x : Bool) → cond x (operatorAt bytes) lacking ≡ token (operator p) rest → suc (length rest) ≡ length bytes
+  unfolding operatorAt
+  one-operator [] true e = no-token (operator p) rest e
+  one-operator (b ∷ s) true e = ap suc (one-byte b s (eqb b 12) e)
+  one-operator bytes false e = no-token (operator p) rest e
+
+  pub cut-one : (bytes : List ℕ) → cut bytes ≡ token (operator p) rest → suc (length rest) ≡ length bytes
+  unfolding cut cutBy
+  cut-one bytes q = go (readBy charstringRows bytes) q
+    where
+      go : (a : Answer Number) → cutBy bytes a ≡ token (operator p) rest → suc (length rest) ≡ length bytes
+      go (accepted x) q = no-operator (x .operand) p rest _ q
+      go (refused n v) q = one-operator bytes (eqb n 6) q
