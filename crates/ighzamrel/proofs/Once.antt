@@ -6,7 +6,7 @@ use contract.Lifetimes.{Lfts}
 use denote.Triple.Clauses.{AtExit}
 use Rattle.number.specs.Answer.{Outcome}
 use Rattle.index.specs.Index.{Extent, Place}
-use Rattle.ighzamrel.specs.Told.{Told, NumberPlaces, IntegerPlaces, ListPlaces, FlatPlaces, ToldMarked, FontPlaces}
+use Rattle.ighzamrel.specs.Told.{Told, NumberPlaces, IntegerPlaces, ListPlaces, FlatPlaces, ToldMarked, ToldExplained, FontPlaces}
 use Rattle.ighzamrel.proofs.numbers.ighzamrel_read_charstring_number.Kinds as charstring-kinds
 use Rattle.ighzamrel.proofs.numbers.ighzamrel_read_charstring_number.Reads as charstring-reads
 use Rattle.ighzamrel.proofs.numbers.ighzamrel_read_dict_integer.Kinds as dict-kinds
@@ -29,6 +29,8 @@ use Rattle.ighzamrel.proofs.flattening.ighzamrel_flatten.Kinds as flatt
 use Rattle.ighzamrel.proofs.flattening.ighzamrel_flatten.Reads as flatten-reads
 use Rattle.ighzamrel.proofs.marking.ighzamrel_flatten_marked.Kinds as marked-kinds
 use Rattle.ighzamrel.proofs.marking.ighzamrel_flatten_marked.Reads as marked-reads
+use Rattle.ighzamrel.proofs.explaining.ighzamrel_explain.Kinds as explain-kinds
+use Rattle.ighzamrel.proofs.explaining.ighzamrel_explain.Reads as explain-reads
 use Rattle.ighzamrel.proofs.fonts.ighzamrel_flatten_font.Kinds as font-kinds
 use Rattle.ighzamrel.proofs.fonts.ighzamrel_flatten_font.Reads as font-reads
 
@@ -153,6 +155,31 @@ flatten-marked-once κs a r r′ x x′ p p′ =
       ap (λ (t : ToldMarked). t .told .places .reason) e,
       ap (λ (t : ToldMarked). t .told .places .widthKind) e,
       ap (λ (t : ToldMarked). t .told .places .width) e,
+    )
+
+pub explain-once : (κs : Lfts 9) (a : Dens κs explain-kinds.ps) (r r′ : resT explain-kinds.r κs .Denot)
+    (x x′ : AtExit (endedOf 9 explain-kinds.ps explain-kinds.r) κs)
+    → explain-reads.Post κs a r x → explain-reads.Post κs a r′ x′
+    → (r ≡ r′)
+    × (x .1 .1 .1 .1 .1 .0 .now ≡ x′ .1 .1 .1 .1 .1 .0 .now)
+    × (x .1 .1 .1 .1 .1 .1 .0 .now ≡ x′ .1 .1 .1 .1 .1 .1 .0 .now)
+    × (x .1 .1 .1 .1 .1 .1 .1 .0 .now ≡ x′ .1 .1 .1 .1 .1 .1 .1 .0 .now)
+    × (x .1 .1 .1 .1 .1 .1 .1 .1 .0 .now ≡ x′ .1 .1 .1 .1 .1 .1 .1 .1 .0 .now)
+    × (x .1 .1 .1 .1 .1 .1 .1 .1 .1 .0 .now ≡ x′ .1 .1 .1 .1 .1 .1 .1 .1 .1 .0 .now)
+    × (x .1 .1 .1 .1 .1 .1 .1 .1 .1 .1 .0 .now ≡ x′ .1 .1 .1 .1 .1 .1 .1 .1 .1 .1 .0 .now)
+    × (x .1 .1 .1 .1 .1 .1 .1 .1 .1 .1 .1 .0 .now ≡ x′ .1 .1 .1 .1 .1 .1 .1 .1 .1 .1 .1 .0 .now)
+    × (x .1 .1 .1 .1 .1 .1 .1 .1 .1 .1 .1 .1 .0 .now ≡ x′ .1 .1 .1 .1 .1 .1 .1 .1 .1 .1 .1 .1 .0 .now)
+explain-once κs a r r′ x x′ p p′ =
+    let e = p ∙ sym p′ in (
+      ap (λ (t : ToldExplained). t .told .number) e,
+      ap (λ (t : ToldExplained). t .words) e,
+      ap (λ (t : ToldExplained). t .told .places .length) e,
+      ap (λ (t : ToldExplained). t .told .places .tokens) e,
+      ap (λ (t : ToldExplained). t .told .places .entry) e,
+      ap (λ (t : ToldExplained). t .told .places .reason) e,
+      ap (λ (t : ToldExplained). t .told .places .widthKind) e,
+      ap (λ (t : ToldExplained). t .told .places .width) e,
+      ap (λ (t : ToldExplained). t .calls) e,
     )
 
 pub flatten-font-once : (κs : Lfts 7) (a : Dens κs font-kinds.ps) (r r′ : resT font-kinds.r κs .Denot)

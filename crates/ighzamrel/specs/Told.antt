@@ -1,6 +1,7 @@
 -- What a C function tells: its number, and what is at the places that were lent to it (RULES, "Answers", "Refusals").
 use Prim.Native.Nat.{ℕ}
 use mathlib.Core.Bool.{Bool, true, false, not, cond}
+use mathlib.Core.List.{List}
 use lib.IntN.{ℤ}
 use lib.Dec.{eqb}
 use Rattle.number.specs.Answer.{Values, Answer, accepted, refused, lengthOr, tokensOr, entryOr, reasonOr, glyphOr, Outcome, leaving}
@@ -8,6 +9,7 @@ use Rattle.number.specs.Number.{Number}
 use Rattle.number.specs.declared.Operand.{Operand}
 use Rattle.reading.specs.Answers.{Flattening}
 use Rattle.reading.specs.Entered.{Lent, Marked}
+use Rattle.reading.specs.Explained.{Explaining}
 use Rattle.reading.specs.declared.Advance.{Advance}
 use Rattle.reading.specs.declared.Advance.the-variants.{Default, Given}
 use Rattle.reading.specs.declared.Profile.{Profile}
@@ -141,6 +143,15 @@ pub record ToldMarked : Type 0 where
 
 abbrev pub tellMarked : Marked → FlatPlaces → ToldMarked
 tellMarked o old = record { told = tell flatPlaces flatPlacesOr (o .answer) old; left = o .left }
+
+-- the same of an explanation, and how many calls were open; and the words as it leaves them
+pub record ToldExplained : Type 0 where
+  pub told : Told FlatPlaces
+  pub calls : ℕ
+  pub words : List ℕ
+
+abbrev pub tellExplained : Explaining → FlatPlaces → ToldExplained
+tellExplained x old = record { told = tell flatPlaces flatPlacesOr (x .answer) old; calls = x .calls; words = x .words }
 
 -- and those of a whole font
 pub record FontPlaces : Type 0 where

@@ -4,12 +4,14 @@
 // input, and its contract says with what.
 //
 // `kind` is 0 for an integer, else a Fixed; `profile` is 0 for plain, else strict.
+mod explaining;
 mod flattening;
 mod fonts;
 mod indexes;
 mod marking;
 mod numbers;
 
+pub use crate::explaining::ighzamrel_explain;
 pub use crate::flattening::ighzamrel_flatten;
 pub use crate::fonts::ighzamrel_flatten_font;
 pub use crate::indexes::ighzamrel_check_list;
