@@ -25,6 +25,8 @@ use Rattle.reading.specs.declared.Flattened.the-variants.{Accepted, BadGlobals,
 use Rattle.reading.specs.Entered.{Lent, Marked, asLent, flattenedMarked}
 use Rattle.reading.specs.declared.FlattenedMarked.{FlattenedMarked}
 use Rattle.reading.specs.declared.FlattenedMarked.the-variants.{As, ShortRow}
+use Rattle.reading.specs.Explained.{Explaining}
+use Rattle.reading.specs.declared.Explained.{Explained}
 use Rattle.charstring.specs.Run.{Begins}
 use Rattle.charstring.proofs.flattening.draft.Kinds as draft-kinds
 use Rattle.charstring.proofs.flattening.draft.Reads as draft-reads
@@ -34,6 +36,8 @@ use Rattle.charstring.proofs.flattening.write.Kinds as write-kinds
 use Rattle.charstring.proofs.flattening.write.Reads as write-reads
 use Rattle.charstring.proofs.flattening.measure.Kinds as measure-kinds
 use Rattle.charstring.proofs.flattening.measure.Reads as measure-reads
+use Rattle.charstring.proofs.explaining.explain.Kinds as explain-kinds
+use Rattle.charstring.proofs.explaining.explain.Reads as explain-reads
 use Rattle.charstring.proofs.marking.flatten_marked.Kinds as marked-kinds
 use Rattle.charstring.proofs.marking.flatten_marked.Reads as marked-reads
 
@@ -118,6 +122,20 @@ write-once κs a r r′ x x′ p p′ = let e = p ∙ sym p′ in (told-once r r
 pub measure-once : (κs : Lfts 1) (a : Dens κs measure-kinds.ps) (r r′ : resT measure-kinds.r κs .Denot)
     (x x′ : AtExit (endedOf 1 measure-kinds.ps measure-kinds.r) κs) → measure-reads.Post κs a r x → measure-reads.Post κs a r′ x′ → r ≡ r′
 measure-once κs a r r′ x x′ p p′ = told-once r r′ (p ∙ sym p′)
+
+-- ---- an explanation
+
+explained-undo : (r : Explained) → record { verdict = flattened-of (flattened (r .verdict)); calls = r .calls } ≡ r
+explained-undo r = ap (λ (v : Flattened). record { verdict = v; calls = r .calls }) (flattened-undo (r .verdict))
+
+abbrev explained-of : Explaining → Explained
+explained-of x = record { verdict = flattened-of (x .answer); calls = x .calls }
+
+pub explain-once : (κs : Lfts 2) (a : Dens κs explain-kinds.ps) (r r′ : resT explain-kinds.r κs .Denot)
+    (x x′ : AtExit (endedOf 2 explain-kinds.ps explain-kinds.r) κs) → explain-reads.Post κs a r x → explain-reads.Post κs a r′ x′
+    → (r ≡ r′) × (x .1 .1 .1 .1 .1 .0 .now ≡ x′ .1 .1 .1 .1 .1 .0 .now)
+explain-once κs a r r′ x x′ p p′ =
+    let e = p ∙ sym p′ in (sym (explained-undo r) ∙ ap explained-of e ∙ explained-undo r′, ap (λ (y : Explaining). y .words) e)
 
 -- ---- with rows
 

@@ -138,7 +138,8 @@ module _ (u : Setup) (stack out : List ℕ) (s : State) (i : ℕ) (h : Here u st
             tokens-are = ap (λ (y : Now). length (y .shown)) same ∙ count;
             length-is = ap (λ (y : Now). length (flat (struck (y .shown)))) same ∙ size;
             bytes = subst (λ (y : Now). Begins out₁ (flat (struck (y .shown)))) (sym same)
-                (subst (λ (o : List ℕ). Begins o (f ++ operatorBytes p)) (sym d) (sets-begins out (s .length) (operatorBytes p) f (r .length-is) (r .bytes)));
+                (subst (λ (o : List ℕ). Begins o (f ++ operatorBytes p)) (sym d)
+                (sets-begins out (s .length) (operatorBytes p) f (r .length-is) (r .bytes)));
             advance-is = ap (λ (y : Now). y .left .advance) same ∙ end-says (h .now .left) k
                 ∙ settled-so (u .rules .takes p) stack s (h .now .left) (r .held) ∙ sym v;
             marked = says same (says-item _ _ _ (h .marked) (bare p));

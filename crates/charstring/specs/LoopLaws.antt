@@ -190,7 +190,8 @@ module _ (cs globals locals : List ℕ) (by : Limits) (levels : ℕ) (stack₀ o
     unfolding RunsTo
     arm-no k e words are = λ t p m.
         let x = b .stands t p m in
-        ends-here (around cs globals locals by levels t marks) stack out marks words _ _ refl are (by-no _ stack out r (x .0) (x .2) w next (x .3) list-of (chosenCount w by) (named t) k e)
+        ends-here (around cs globals locals by levels t marks) stack out marks words _ _ refl are
+        (by-no _ stack out r (x .0) (x .2) w next (x .3) list-of (chosenCount w by) (named t) k e)
 
     module _ (k from to : ℕ) (e : Aims (Enter k from to)) (e′ : Numbered (Enter k from to)) where
       abbrev pub body-of : List ℕ
@@ -239,7 +240,8 @@ module _ (cs globals locals : List ℕ) (by : Limits) (levels : ℕ) (stack₀ o
 
         module _ (list : List ℕ) (its : list ≡ list-of) (marked : List ℕ) (is-marked : marked ≡ with-mark)
             (words : List ℕ) (same-words : words ≡ words₀) (r₁ : Ran) (stack₁ out₁ marks₁ words₁ : List ℕ)
-            (ran : RunsTo (take (to - from) (drop from list)) globals locals by s stack out marked words (levels - 1) r₁ stack₁ out₁ marks₁ words₁) where
+            (ran : RunsTo (take (to - from) (drop from list)) globals locals by s stack out marked words (levels - 1)
+            r₁ stack₁ out₁ marks₁ words₁) where
           abbrev Runs : List ℕ → List ℕ → List ℕ → Type 0
           Runs l m v = RunsTo (take (to - from) (drop from l)) globals locals by s stack out m v (levels - 1) r₁ stack₁ out₁ marks₁ words₁
 
@@ -260,20 +262,20 @@ module _ (cs globals locals : List ℕ) (by : Limits) (levels : ℕ) (stack₀ o
             unfolding RunsTo
             inner-ran = ran-there _ (inner t p m) (inner-says t p m)
 
-          pub arm-back : r₁ .how ≡ Back → Stands stack₁ out₁ marks₁ (r₁ .st) next
+          arm-back : r₁ .how ≡ Back → Stands stack₁ out₁ marks₁ (r₁ .st) next
           arm-back c = λ t p m.
               let x = b .stands t p m in
               came-back _ stack out r (x .0) (x .2) w next (x .3) list-of (chosenCount w by)
               (named t) k from to e e′ r₁ stack₁ out₁ marks₁ (inner-ran t p m .0) c
 
           -- where it comes back or ends everything, nothing is noted
-          pub words-stay : (c : (k : ℕ) → howOf (r₁ .how) ≡ stopped k → ⊥) → words₁ ≡ words₀
+          words-stay : (c : (k : ℕ) → howOf (r₁ .how) ≡ stopped k → ⊥) → words₁ ≡ words₀
           unfolding Sound
           words-stay c =
               let f = inner-ran (b .sound .0) (b .sound .1) (b .sound .2) in
               f .1 ∙ unless-refused words₀ _ (f .0 .1 .newer) _ (λ k z. c k (f .0 .0 .how ∙ z))
 
-          pub arm-ended : r₁ .how ≡ Ended → Gives r₁ stack₁ out₁ marks₁ words₁
+          arm-ended : r₁ .how ≡ Ended → Gives r₁ stack₁ out₁ marks₁ words₁
           unfolding RunsTo
           arm-ended c = λ t p m.
               let x = b .stands t p m in
@@ -287,7 +289,7 @@ module _ (cs globals locals : List ℕ) (by : Limits) (levels : ℕ) (stack₀ o
               )
 
           -- where it is refused, the call is noted before those that are open in it
-          pub arm-refused : (v : Refusal) → r₁ .how ≡ Refused v → levels ≤ by .rules .levels → (words₂ : List ℕ)
+          arm-refused : (v : Refusal) → r₁ .how ≡ Refused v → levels ≤ by .rules .levels → (words₂ : List ℕ)
               → words₂ ≡ noteAt words₁ (by .rules .levels - levels) w k (next - 1) → Gives r₁ stack₁ out₁ marks₁ words₂
           unfolding RunsTo
           arm-refused v c deep words₂ noted-so = λ t p m.
@@ -321,6 +323,21 @@ module _ (cs globals locals : List ℕ) (by : Limits) (levels : ℕ) (stack₀ o
                     ∙ ap (λ (l : List Entering). noted words₀ (by .rules .levels - levels) (openBy l (stopped (numberOf v)))) (sym (ends-so .1))
                     ∙ ap (λ (h : How). noted words₀ (by .rules .levels - levels) (openBy (g .1 .newer) h)) (sym stop),
               )
+
+          -- what the run of an entry comes to: the caller goes on, or all is over
+          pub record Behind : Type 0 where
+            pub goes-on : r₁ .how ≡ Back → Stands stack₁ out₁ marks₁ (r₁ .st) next × (words₁ ≡ words₀)
+            pub ended : r₁ .how ≡ Ended → Gives r₁ stack₁ out₁ marks₁ words₁
+            pub refused : (v : Refusal) → r₁ .how ≡ Refused v → levels ≤ by .rules .levels → (words₂ : List ℕ)
+                → words₂ ≡ noteAt words₁ (by .rules .levels - levels) w k (next - 1) → Gives r₁ stack₁ out₁ marks₁ words₂
+
+          pub behind : Behind
+          behind =
+              record {
+                goes-on = λ c. (arm-back c, words-stay (λ k z. back-no-refusal (r₁ .how) k c z));
+                ended = arm-ended;
+                refused = arm-refused;
+              }
 
 -- ---- what the code found, in these words
 

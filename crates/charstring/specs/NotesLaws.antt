@@ -94,7 +94,8 @@ more-left a b d rest c calls =
     (let e : length (a ∷ b ∷ d ∷ rest) / 3 ≡ suc (length rest / 3) = omega arith in e)
 
 -- with room for one more
-one-more : (lent : List ℕ) (c : Entering) (calls : List Entering) → 3 ≤ length lent → wordsLeft lent (c ∷ calls) ≡ three c ++ wordsLeft (drop 3 lent) calls
+one-more : (lent : List ℕ) (c : Entering) (calls : List Entering) → 3 ≤ length lent
+    → wordsLeft lent (c ∷ calls) ≡ three c ++ wordsLeft (drop 3 lent) calls
 one-more [] c calls h = absurd (omega arith)
 one-more (a ∷ []) c calls h = absurd (omega arith)
 one-more (a ∷ b ∷ []) c calls h = absurd (omega arith)
@@ -112,17 +113,20 @@ no-calls lent = nothing-taken (length lent / 3)
 noted-behind : (words : List ℕ) (around : ℕ) (calls : List Entering) → 3 * around ≤ length words
     → noted words around calls ≡ take (3 * around) words ++ wordsLeft (drop (3 * around) words) calls
 unfolding noted
-noted-behind words around [] h = sym (ap (λ (l : List ℕ). take (3 * around) words ++ l) (no-calls (drop (3 * around) words)) ∙ take-append-drop (3 * around) words)
+noted-behind words around [] h =
+    sym (ap (λ (l : List ℕ). take (3 * around) words ++ l) (no-calls (drop (3 * around) words)) ∙ take-append-drop (3 * around) words)
 noted-behind words around (c ∷ calls) h = by-room (λ k. noted-behind words (around + 1) calls k) (ltb (3 * around + 2) (length words)) refl
   where
     by-room : (3 * (around + 1) ≤ length words
         → noted words (around + 1) calls ≡ take (3 * (around + 1)) words ++ wordsLeft (drop (3 * (around + 1)) words) calls)
         → (b : Bool) → ltb (3 * around + 2) (length words) ≡ b
-        → noteAt (noted words (around + 1) calls) around (c .list) (c .entry) (c .at) ≡ take (3 * around) words ++ wordsLeft (drop (3 * around) words) (c ∷ calls)
+        → noteAt (noted words (around + 1) calls) around (c .list) (c .entry) (c .at)
+        ≡ take (3 * around) words ++ wordsLeft (drop (3 * around) words) (c ∷ calls)
     by-room deeper false e =
         let few : length words ≤ 3 * around + 2 = ltb-false (3 * around + 2) (length words) e in
         noted-none words around (c ∷ calls) few
-        ∙ sym (ap (λ (l : List ℕ). take (3 * around) words ++ l) (few-left (drop (3 * around) words) (c ∷ calls) (omega (arith, length-drop (3 * around) words)))
+        ∙ sym (ap (λ (l : List ℕ). take (3 * around) words ++ l)
+        (few-left (drop (3 * around) words) (c ∷ calls) (omega (arith, length-drop (3 * around) words)))
         ∙ take-append-drop (3 * around) words)
     by-room deeper true e =
         let room : 3 * around + 2 < length words = ltb-true (3 * around + 2) (length words) e in

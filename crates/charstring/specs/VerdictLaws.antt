@@ -105,7 +105,9 @@ module _ (rules : CodeRules) (stack out marks : List ℕ) (clear : Clear marks) 
         ∙ noted-all words _ ∙ ap (wordsLeft words) (sym all-open)
 
     pub tells-none : ((k : ℕ) → howOf (r .how) ≡ stopped k → ⊥) → Tells the-run words 0 words₁
-    tells-none n = record { count-is = ap length (sym (unrefused (the-run .state .within) (the-run .how) (λ k z. n k (done .how ∙ z)))); words-are = words-so }
+    tells-none n =
+        let none = unrefused (the-run .state .within) (the-run .how) (λ k z. n k (done .how ∙ z)) in
+        record { count-is = ap length (sym none); words-are = words-so }
 
     pub tells-open : (k : Refusal) → r .how ≡ Refused k → (calls : ℕ) → calls ≡ rules .levels - r .levels → Tells the-run words calls words₁
     unfolding openBy reading
@@ -114,7 +116,8 @@ module _ (rules : CodeRules) (stack out marks : List ℕ) (clear : Clear marks) 
           count-is =
               let d = ran .0 .1 .deep in
               let same : length (openCalls the-run) ≡ length (ran .0 .1 .newer) =
-              ap length all-open ∙ ap (λ (h : How). length (openBy (ran .0 .1 .newer) h)) (sym (done .how) ∙ ap howOf e) ∙ length-reverse (ran .0 .1 .newer) in
+              ap length all-open ∙ ap (λ (h : How). length (openBy (ran .0 .1 .newer) h)) (sym (done .how) ∙ ap howOf e)
+              ∙ length-reverse (ran .0 .1 .newer) in
               omega arith;
           words-are = words-so;
         }

@@ -165,9 +165,12 @@ module _ (p : Operator) (rest : List ℕ) (f : p .escaped ≡ false) where
   one-escape : {A : Type 0} (s : List ℕ) → escapedAt s ≡ token (operator p) rest → A
   unfolding escapedAt
   one-escape [] e = no-token (operator p) rest e
-  one-escape (b ∷ s) e = let q : true ≡ false = ap (λ (y : Operator). y .escaped) (same-operator p _ rest s e) ∙ f in let z : _≡_ {A = ℕ} 0 1 = cc in absurd (omega arith)
+  one-escape (b ∷ s) e =
+      let q : true ≡ false = ap (λ (y : Operator). y .escaped) (same-operator p _ rest s e) ∙ f in
+      let z : _≡_ {A = ℕ} 0 1 = cc in absurd (omega arith)
 
-  one-byte : (b : ℕ) (s : List ℕ) (x : Bool) → cond x (escapedAt s) (token (operator (record { escaped = false; byte = b })) s) ≡ token (operator p) rest
+  one-byte : (b : ℕ) (s : List ℕ) (x : Bool)
+      → cond x (escapedAt s) (token (operator (record { escaped = false; byte = b })) s) ≡ token (operator p) rest
       → length rest ≡ length s
   one-byte b s true e = one-escape s e
   one-byte b s false e = ap length (sym (rest-is (operator p) _ rest s e))

@@ -2,21 +2,15 @@ use mathlib.Core.Path.{_≡_, refl, sym, ap, subst, _∙_}
 use Prim.Native.Nat.{ℕ, _-_, _≤_, _<_}
 use denote.Ref.{now}
 use native.Mathlib.Omega.{arith}
-use mathlib.Core.List.{List}
 use lib.ListN.{length, getD}
 use borrow.Author.Needs.{needs}
 use Rattle.number.specs.Number.{charstringRows}
 use Rattle.number.specs.Written.{spelling}
 use Rattle.number.specs.declared.Operand.{Operand}
-use Rattle.reading.specs.Reading.{stopped}
-use Rattle.reading.specs.declared.Refusal.{Refusal}
 use Rattle.charstring.specs.Words.{unpackOf, Inside}
-use Rattle.charstring.specs.Notes.{noteAt}
-use Rattle.charstring.specs.Run.{howOf}
 use Rattle.charstring.specs.StretchLaws.{few-tokens}
 use Rattle.charstring.specs.LoopLaws.{Stands, Gives, begins, Turn, roomy-now, stands-on, arm-done, Before, before, Numbers, safe, Aims, arm-no}
-use Rattle.charstring.specs.LoopLaws.{Numbered, index-there, inside-sound, with-mark, arm-back, words-stay, arm-ended, arm-refused, aims-at, names-at, back-no-refusal}
-use Rattle.charstring.specs.declared.stretch.Ending.the-variants.{Back, Ended, Refused}
+use Rattle.charstring.specs.LoopLaws.{Numbered, index-there, inside-sound, with-mark, Behind, behind, aims-at, names-at}
 use Rattle.charstring.specs.declared.subroutines.Target.the-variants.{Enter}
 use borrow.Fn.Kinds.{In, Out}
 use borrow.Fn.PlainCycle.{Measures, is, falls, and}
@@ -104,12 +98,16 @@ target-of t c = mark-of t c .before .before .before
 abbrev size-of : (t : ℕ) → Of run-lts.After-run t → Of run-lts.After-size-of t
 size-of t c = c .before .before .before .before .before .before
 
+abbrev run-of : (t : ℕ) → Of run-lts.After-slice-known13 t → Of run-lts.After-run t
+run-of t c = c .before .before .before .before .before .before .before .before .before .before .before .before .before .before .before
+
 -- ---- what is known there
 
 -- where the loop is
 turn-at : (t : ℕ) (c : Of run-lts.At-loop t)
     → let args = start-of t c .args in
-    Turn (args .cs .now) (args .globals .now) (args .locals .now) (args .by) (args .levels) (args .stack .now) (args .out .now) (args .marks .now) (args .words .now) (args .s)
+    Turn (args .cs .now) (args .globals .now) (args .locals .now) (args .by) (args .levels) (args .stack .now) (args .out .now) (args .marks .now)
+    (args .words .now) (args .s)
     (c .loop .stack) (c .loop .out) (c .loop .marks) (c .loop .st) (c .loop .i)
 turn-at t c =
     let start = start-of t c in
@@ -129,7 +127,8 @@ at-call : (t : ℕ) (c : Of run-lts.After-stop2 t)
     → let loop = loop-of t (stretch-of t c) in
     let args = start-of t loop .args in
     let stretch = stretch-of t c .stretch in
-    Before (args .cs .now) (args .globals .now) (args .locals .now) (args .by) (args .levels) (args .stack .now) (args .out .now) (args .marks .now) (args .words .now) (args .s)
+    Before (args .cs .now) (args .globals .now) (args .locals .now) (args .by) (args .levels) (args .stack .now) (args .out .now) (args .marks .now)
+    (args .words .now) (args .s)
     (loop .loop .i) (stretch .result .st) (stretch .last .1 .1 .1 .1 .0) (stretch .last .1 .1 .1 .1 .1 .0) (loop .loop .marks)
     (c .stop2 .given .0 .0) (c .stop2 .given .0 .1 .0)
 at-call t c =
@@ -193,6 +192,9 @@ module _ (t : ℕ) (c : Of run-lts.After-run t) where
   abbrev start : Of run-lts.Start t
   start = start-of t (loop-of t at-stretch)
 
+  abbrev at-enter : Of run-lts.After-enter t
+  at-enter = c .before .before .before .before .before
+
   still-stack : length (c .run .last .1 .1 .1 .1 .1 .0) ≡ length (start .args .stack .now)
   still-stack = c .run .kept .1 .1 .1 .1 .1 .0 ∙ same-stack t at-stretch
 
@@ -205,45 +207,17 @@ module _ (t : ℕ) (c : Of run-lts.After-run t) where
   still-out : length (c .run .last .1 .1 .1 .1 .1 .1 .0) ≡ length (start .args .out .now)
   still-out = c .run .kept .1 .1 .1 .1 .1 .1 .0 ∙ same-out t at-stretch
 
-  back : c .run .result .how ≡ Back
-      → let args = start .args in
-      Stands (args .cs .now) (args .globals .now) (args .locals .now) (args .by) (args .levels) (args .stack .now) (args .out .now)
-      (args .marks .now) (args .words .now) (args .s) (c .run .last .1 .1 .1 .1 .1 .0) (c .run .last .1 .1 .1 .1 .1 .1 .0)
-      (c .run .last .1 .1 .1 .1 .1 .1 .1 .0) (c .run .result .st) (call-of t at-target .stop2 .given .0 .0)
-  back e =
-      arm-back _ _ _ _ _ _ _ _ _ _ _ _ _ _ _ _ _ (at-call t (call-of t at-target)) _ _ _ (aims t at-target) (numbered t at-target) _ _
-      (sized t (size-of t c)) (c .before .before .before .before .before .enter .ensures) _ (at-target .before .before .before .before .choose .ensures)
-      _ (mark-of t (size-of t c) .mark .ensures) _ (loop-of t at-stretch .loop .inv .4) (c .run .result) _ _ _ _ (c .run .ensures) e
+  abbrev Came : Type 0
+  Came =
+      Behind _ _ _ _ _ _ _ _ _ _ _ _ _ _ _ _ _ (at-call t (call-of t at-target)) _ _ _ (aims t at-target) (numbered t at-target) _ _
+      (sized t (size-of t c)) (at-enter .enter .ensures) _ (at-target .before .before .before .before .choose .ensures)
+      _ (mark-of t (size-of t c) .mark .ensures) _ (loop-of t at-stretch .loop .inv .4) (c .run .result) _ _ _ _ (c .run .ensures)
 
-  still-words : ((k : ℕ) → howOf (c .run .result .how) ≡ stopped k → ⊥) → c .run .last .1 .1 .1 .1 .1 .1 .1 .1 .0 ≡ start .args .words .now
-  still-words n =
-      words-stay _ _ _ _ _ _ _ _ _ _ _ _ _ _ _ _ _ (at-call t (call-of t at-target)) _ _ _ (aims t at-target) (numbered t at-target) _ _
-      (sized t (size-of t c)) (c .before .before .before .before .before .enter .ensures) _ (at-target .before .before .before .before .choose .ensures)
-      _ (mark-of t (size-of t c) .mark .ensures) _ (loop-of t at-stretch .loop .inv .4) (c .run .result) _ _ _ _ (c .run .ensures) n
-
-  -- what the run comes to, with these words
-  abbrev Comes : List ℕ → Type 0
-  Comes words =
-      let args = start .args in
-      Gives (args .cs .now) (args .globals .now) (args .locals .now) (args .by) (args .levels) (args .stack .now) (args .out .now)
-      (args .marks .now) (args .words .now) (args .s) (c .run .result) (c .run .last .1 .1 .1 .1 .1 .0) (c .run .last .1 .1 .1 .1 .1 .1 .0)
-      (c .run .last .1 .1 .1 .1 .1 .1 .1 .0) words
-
-  ended : c .run .result .how ≡ Ended → Comes (c .run .last .1 .1 .1 .1 .1 .1 .1 .1 .0)
-  ended e =
-      arm-ended _ _ _ _ _ _ _ _ _ _ _ _ _ _ _ _ _ (at-call t (call-of t at-target)) _ _ _ (aims t at-target) (numbered t at-target) _ _
-      (sized t (size-of t c)) (c .before .before .before .before .before .enter .ensures) _ (at-target .before .before .before .before .choose .ensures)
-      _ (mark-of t (size-of t c) .mark .ensures) _ (loop-of t at-stretch .loop .inv .4) (c .run .result) _ _ _ _ (c .run .ensures) e
-
-  refused : (v : Refusal) → c .run .result .how ≡ Refused v → (words : List ℕ)
-      → words ≡ noteAt (c .run .last .1 .1 .1 .1 .1 .1 .1 .1 .0) (start .args .by .rules .levels - start .args .levels)
-      (call-of t at-target .stop2 .given .0 .1 .0) (at-target .target2 .given .0 .0) (call-of t at-target .stop2 .given .0 .0 - 1)
-      → Comes words
-  refused v e words q =
-      arm-refused _ _ _ _ _ _ _ _ _ _ _ _ _ _ _ _ _ (at-call t (call-of t at-target)) _ _ _ (aims t at-target) (numbered t at-target) _ _
-      (sized t (size-of t c)) (c .before .before .before .before .before .enter .ensures) _ (at-target .before .before .before .before .choose .ensures)
-      _ (mark-of t (size-of t c) .mark .ensures) _ (loop-of t at-stretch .loop .inv .4) (c .run .result) _ _ _ _ (c .run .ensures) v e
-      (start .pre .1 .1 .1) words q
+  came : Came
+  came =
+      behind _ _ _ _ _ _ _ _ _ _ _ _ _ _ _ _ _ (at-call t (call-of t at-target)) _ _ _ (aims t at-target) (numbered t at-target) _ _
+      (sized t (size-of t c)) (at-enter .enter .ensures) _ (at-target .before .before .before .before .choose .ensures)
+      _ (mark-of t (size-of t c) .mark .ensures) _ (loop-of t at-stretch .loop .inv .4) (c .run .result) _ _ _ _ (c .run .ensures)
 
 -- ---- the needs
 
@@ -255,8 +229,8 @@ run-loop-holds t c =
       refl,
       refl,
       begins (args .cs .now) (args .globals .now) (args .locals .now) (args .by) (args .levels) (args .stack .now) (args .out .now) (args .marks .now)
-          (args .words .now) (args .s) (λ k. third .before .before .shared-slice-known .given k .fits) (λ k. third .before .shared-slice-known2 .given k .fits)
-          (λ k. third .shared-slice-known3 .given k .fits),
+          (args .words .now) (args .s) (λ k. third .before .before .shared-slice-known .given k .fits)
+          (λ k. third .before .shared-slice-known2 .given k .fits) (λ k. third .shared-slice-known3 .given k .fits),
       refl,
     )
 
@@ -395,8 +369,8 @@ run-loop-less t c =
 run-loop-again : (t : ℕ) → Of run-lts.Need-loop-again t
 run-loop-again t c =
     let at = c .before .before .before .before .before .before .before .before .before .before .before in
-    let came = c .before .enum-told .given .1 in
-    (still-stack t at, still-out t at, still-marks t at, back t at came, still-words t at (λ k z. back-no-refusal _ k came z))
+    let behind = came t at .goes-on (c .before .enum-told .given .1) in
+    (still-stack t at, still-out t at, still-marks t at, behind .0, behind .1)
 
 run-enum-told-2 : (t : ℕ) → Of run-lts.Need-enum-told-2 t
 run-enum-told-2 t c = search needs
@@ -414,7 +388,7 @@ run-same-length-12 : (t : ℕ) → Of run-lts.Need-same-length-12 t
 run-same-length-12 t c = kept-words t (c .before .before .before .before .before .before .before .before .before .before)
 
 run-returns-3 : (t : ℕ) → Of run-lts.Need-returns-3 t
-run-returns-3 t c = ended t (c .before .before .before .before .before .before .before .before .before .before) (c .enum-told2 .given .1)
+run-returns-3 t c = came t (c .before .before .before .before .before .before .before .before .before .before) .ended (c .enum-told2 .given .1)
 
 run-enum-told-3 : (t : ℕ) → Of run-lts.Need-enum-told-3 t
 run-enum-told-3 t c = search needs
@@ -423,25 +397,29 @@ run-sub-note : (t : ℕ) → Of run-lts.Need-sub-note t
 run-sub-note t c = start t (c .before .before .before .before .before .before .before .before .before .before .before .before) .pre .1 .1 .1
 
 run-sub-note-2 : (t : ℕ) → Of run-lts.Need-sub-note-2 t
-run-sub-note-2 t c = let n = numbers t (call-of t (at-target t (c .before .before .before .before .before .before .before .before .before .before .before .before))) in omega (arith, n .ahead)
+run-sub-note-2 t c =
+    let at-run = c .before .before .before .before .before .before .before .before .before .before .before .before in
+    let n = numbers t (call-of t (at-target t at-run)) in omega (arith, n .ahead)
 
 run-note-requires : (t : ℕ) → Of run-lts.Need-note-requires t
 run-note-requires t c κs = tt
 
 run-same-length-13 : (t : ℕ) → Of run-lts.Need-same-length-13 t
-run-same-length-13 t c = still-stack t (c .before .before .before .before .before .before .before .before .before .before .before .before .before .before .before)
+run-same-length-13 t c = still-stack t (run-of t c)
 
 run-same-length-14 : (t : ℕ) → Of run-lts.Need-same-length-14 t
-run-same-length-14 t c = still-out t (c .before .before .before .before .before .before .before .before .before .before .before .before .before .before .before)
+run-same-length-14 t c = still-out t (run-of t c)
 
 run-same-length-15 : (t : ℕ) → Of run-lts.Need-same-length-15 t
-run-same-length-15 t c = still-marks t (c .before .before .before .before .before .before .before .before .before .before .before .before .before .before .before)
+run-same-length-15 t c = still-marks t (run-of t c)
 
 run-same-length-16 : (t : ℕ) → Of run-lts.Need-same-length-16 t
-run-same-length-16 t c = c .before .before .note .kept .0 ∙ kept-words t (c .before .before .before .before .before .before .before .before .before .before .before .before .before .before .before)
+run-same-length-16 t c = c .before .before .note .kept .0 ∙ kept-words t (run-of t c)
 
 run-returns-4 : (t : ℕ) → Of run-lts.Need-returns-4 t
-run-returns-4 t c = refused t (c .before .before .before .before .before .before .before .before .before .before .before .before .before .before .before) _ (c .before .before .before .before .before .enum-told3 .given .1) _ (c .before .before .note .ensures)
+run-returns-4 t c =
+    let at = run-of t c in
+    came t at .refused _ (c .before .before .before .before .before .enum-told3 .given .1) (start t at .pre .1 .1 .1) _ (c .before .before .note .ensures)
 
 pub +run-spec : {M : Type 1} → statement M
 +run-spec = close μ-run λ t. run-lts.spec (callees t)

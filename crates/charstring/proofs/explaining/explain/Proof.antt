@@ -24,7 +24,8 @@ locals-formed : (c : tie.After-check-list2)
 locals-formed c = formed-by _ _ _ (c .check-list2 .result) (c .before .before .before .before .rules-of .ensures) (c .check-list2 .ensures)
 
 -- a list that is not well formed leaves the words as lent
-unopened : (lent : List ℕ) (a : Answer Flattening) (x : Explanation) → withoutCalls a ≡ x → record { answer = a; calls = 0; words = lent } ≡ inWords lent x
+unopened : (lent : List ℕ) (a : Answer Flattening) (x : Explanation) → withoutCalls a ≡ x
+    → record { answer = a; calls = 0; words = lent } ≡ inWords lent x
 unopened lent a x e = ap (λ (l : List ℕ). record { answer = a; calls = 0; words = l }) (sym (no-calls lent)) ∙ ap (inWords lent) e
 
 rules-of-requires : tie.Need-rules-of-requires
@@ -77,11 +78,12 @@ returns-3 : tie.Need-returns-3
 unfolding explaining explanation
 returns-3 c =
     let locals = c .before .before .before .before .before .before in
-    let globals = c .before .before .before .before .before .before .before .before .before in
+    let at-match = c .before .before .before .before .before .before .before .before in
+    let globals = at-match .before in
     c .before .before .explain-run .ensures
-    ∙ ap (inWords (c .before .before .before .before .before .before .before .before .before .before .before .before .before .before .before .args .words .now))
+    ∙ ap (inWords (globals .before .before .before .before .before .before .args .words .now))
     (opened withoutCalls 2 _ _ (locals .check-list2 .result) (c .before .before .before .before .before .match2 .keys2) (locals-formed locals)
-    ∙ opened withoutCalls 1 _ _ (globals .check-list .result) (c .before .before .before .before .before .before .before .before .match .keys2) (globals-formed globals))
+    ∙ opened withoutCalls 1 _ _ (globals .check-list .result) (at-match .match .keys2) (globals-formed globals))
 
 pub explain-spec : {M : Type 1} → statement M
 explain-spec =

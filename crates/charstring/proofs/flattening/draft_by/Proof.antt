@@ -9,7 +9,8 @@ use Rattle.charstring.specs.Marks.{runMarks}
 use Rattle.charstring.specs.Notes.{Tells}
 use Rattle.charstring.specs.Run.{howOf, Done, countOf}
 use Rattle.charstring.specs.LoopLaws.{back-no-refusal, ended-no-refusal}
-use Rattle.charstring.specs.VerdictLaws.{ready, done, tells-none, tells-open, levels-left, run-marked, came-back, all-ended, unfinished, was-stopped, few-tokens}
+use Rattle.charstring.specs.VerdictLaws.{ready, done, tells-none, tells-open, levels-left}
+use Rattle.charstring.specs.VerdictLaws.{run-marked, came-back, all-ended, unfinished, was-stopped, few-tokens}
 use Rattle.charstring.specs.declared.stretch.Ending.the-variants.{Refused}
 use borrow.Author.Needs.{needs}
 use Rattle.charstring.proofs.flattening.draft_by.Statement.{statement}

@@ -34,14 +34,16 @@ same-length-2 c = search needs
 returns : tie.Need-returns
 returns c =
     let drafted = c .before .before .before .before .before .before .draft-by in
-    let rules-of = c .before .before .before .before .before .before .before .before .before .before .before .rules-of in
-    let args = c .before .before .before .before .before .before .before .before .before .before .before .before .before .before .before .before .before .args in
+    let at-rules-of = c .before .before .before .before .before .before .before .before .before .before .before in
+    let args = at-rules-of .before .before .before .before .before .before .args in
     subst
     (λ (x : Rules). let run = original x (args .cs .now) (args .globals .now) (args .locals .now) (args .budget) in
     (flattened (drafted .result .verdict) ≡ verdict x run) × (Begins (drafted .last .1 .1 .1 .1 .1 .1 .0) (flatOf run)
     × (drafted .last .1 .1 .1 .1 .1 .1 .1 .0
     ≡ runMarks x (args .cs .now) (args .globals .now) (args .locals .now) (args .budget) (length (args .marks .now)))))
-    (rules-of .ensures) (drafted .ensures .0, (drafted .ensures .1 .0, drafted .ensures .1 .1 .0))
+    (at-rules-of .rules-of .ensures) (drafted .ensures .0, (drafted .ensures .1 .0, drafted .ensures .1 .1 .0))
 
 pub draft-marking-spec : {M : Type 1} → statement M
-draft-marking-spec = tie.close (tie.spec rules-of-requires slice-aggregate-draft-by slice-aggregate-draft-by-2 draft-by-requires same-length same-length-2 returns)
+draft-marking-spec =
+    tie.close
+    (tie.spec rules-of-requires slice-aggregate-draft-by slice-aggregate-draft-by-2 draft-by-requires same-length same-length-2 returns)
