@@ -9,19 +9,20 @@
  *
  * Lent bytes. Inputs are never changed. A refusal changes no byte of `out` and of the rows of
  * ighzamrel_flatten_marked; acceptance changes only the first *length bytes of `out`, and of a row as many as its list
- * needs.
+ * needs. Of `words`, which ighzamrel_explain alone has, only those change that tell a call, and these come first.
  *
  * Pointers. A slice is a pointer, `x`, and then how many elements it has, `x_len`. Every pointer is valid
- * for its length and aligned, and none is null, also where the length is 0. `out`, the rows and the places overlap
- * nothing: no input, and not each other. Inputs may overlap each other.
+ * for its length and aligned, and none is null, also where the length is 0. `out`, the rows, `words` and the places
+ * overlap nothing: no input, and not each other. Inputs may overlap each other.
  *
  * There is no state, nothing is allocated, and nothing is called but memcpy and memset; so any threads may
- * call at once, each with its own `out`, rows and places. ighzamrel_flatten goes one call deeper for each call of
- * the charstring: at 64 strings deep, the most in plain, it used less than 48 KiB of stack, at 11, the most
- * in strict, less than 11 KiB. ighzamrel_flatten_marked keeps the marks in 16 KiB of stack besides: it used less than
- * 64 KiB in plain, less than 28 KiB in strict. ighzamrel_flatten_font keeps what it can of a font in 64 KiB besides: it
- * used less than 112 KiB in plain, less than 80 KiB in strict. Each other function used less than 200 bytes
- * (x86-64; docs/BENCHMARKS.md says how that was measured).
+ * call at once, each with its own `out`, rows, `words` and places. ighzamrel_flatten goes one call deeper for each call
+ * of the charstring: at 64 strings deep, the most in plain, it used less than 52 KiB of stack, at 11, the most
+ * in strict, less than 12 KiB. ighzamrel_explain used less than 50 KiB in plain, less than 10 KiB in strict.
+ * ighzamrel_flatten_marked keeps the marks in 16 KiB of stack besides: it used less than 68 KiB in plain, less than
+ * 28 KiB in strict. ighzamrel_flatten_font keeps what it can of a font in 64 KiB besides: it used less than 114 KiB in
+ * plain, less than 80 KiB in strict. Each other function used less than 200 bytes (x86-64; docs/BENCHMARKS.md says how
+ * that was measured).
  *
  * Each function stands in a section of its own, so a program that is linked with --gc-sections has what it calls
  * and no more.
@@ -87,6 +88,17 @@ enum ighzamrel_width_kind {
 enum ighzamrel_profile {
     IGHZAMREL_PLAIN = 0,
     IGHZAMREL_STRICT = 1
+};
+
+/* The list of a call, the first of its three words. */
+enum ighzamrel_list {
+    IGHZAMREL_LOCAL = 0,
+    IGHZAMREL_GLOBAL = 1
+};
+
+/* How many calls can be open at once: so many in plain, 10 in strict. */
+enum ighzamrel_most {
+    IGHZAMREL_MOST_CALLS = 63
 };
 
 /*
@@ -271,6 +283,57 @@ static inline uint32_t ighzamrel_flatten_font_into(const uint8_t *charstrings, s
     result->answer = ighzamrel_flatten_font(charstrings, charstrings_len, globals, globals_len, locals, locals_len,
                                             profile, budget, out, out_len, &result->length, &result->glyph,
                                             &result->tokens, &result->entry, &result->reason);
+    return result->answer;
+}
+
+/*
+ * Says why a charstring is refused: answers as ighzamrel_flatten would with enough room, so never 13, writes no flat
+ * string, and tells which calls were open where the run was refused: at the refused token, and at 3 before the next one.
+ * 0: *length, how many bytes the flat string has, *tokens, *width_kind and *width as ighzamrel_flatten. 1 or 2: *reason
+ * and *entry, as there. 3 to 12: *tokens. 15 or 16: none of these. *calls is always set: at 3 to 12 and 15 it is how many
+ * calls were open, else 0. A call that came back is not open any more, and one that is itself refused never was.
+ *
+ * Three words tell a call: IGHZAMREL_LOCAL or IGHZAMREL_GLOBAL; the number of the subroutine, from 0, with the bias added;
+ * and where the operator of the call stands, in bytes from the start of the string that has it. The outermost call comes
+ * first, so that string is the charstring for the first call, and for each other the subroutine that the one before it
+ * entered. The refused token stands in the subroutine of the last call, or in the charstring where there is none.
+ *
+ * 3 * IGHZAMREL_MOST_CALLS words are always enough. Where fewer are lent, the first words_len / 3 calls are told, each
+ * whole, and *calls is larger than that. All words behind those of the calls stay, so all of them where *calls is 0.
+ */
+uint32_t ighzamrel_explain(const uint8_t *charstring, size_t charstring_len, const uint8_t *globals,
+                           size_t globals_len, const uint8_t *locals, size_t locals_len, uint32_t profile,
+                           uint32_t budget, uint64_t *words, size_t words_len, size_t *length, uint32_t *tokens,
+                           uint32_t *entry, uint32_t *reason, uint32_t *width_kind, int32_t *width, size_t *calls);
+
+/* What ighzamrel_explain answers and sets. A later version may have more, behind these. */
+typedef struct ighzamrel_explanation {
+    uint32_t answer;
+    size_t length;
+    uint32_t tokens;
+    uint32_t entry;
+    uint32_t reason;
+    uint32_t width_kind;
+    int32_t width;
+    size_t calls;
+} ighzamrel_explanation;
+
+/* Calls ighzamrel_explain with the places of *result, and gives its answer; what that does not set is 0. */
+static inline uint32_t ighzamrel_explain_into(const uint8_t *charstring, size_t charstring_len,
+                                              const uint8_t *globals, size_t globals_len, const uint8_t *locals,
+                                              size_t locals_len, uint32_t profile, uint32_t budget, uint64_t *words,
+                                              size_t words_len, ighzamrel_explanation *result)
+{
+    result->length = 0;
+    result->tokens = 0;
+    result->entry = 0;
+    result->reason = 0;
+    result->width_kind = 0;
+    result->width = 0;
+    result->calls = 0;
+    result->answer = ighzamrel_explain(charstring, charstring_len, globals, globals_len, locals, locals_len, profile,
+                                       budget, words, words_len, &result->length, &result->tokens, &result->entry,
+                                       &result->reason, &result->width_kind, &result->width, &result->calls);
     return result->answer;
 }
 

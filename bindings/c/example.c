@@ -1,7 +1,7 @@
 /*
  * One charstring made flat, the same charstring refused, and a list of subroutines that is damaged; the glyphs of a
- * whole font; what the strict profile refuses beyond the plain one; charstrings that say their width; and which
- * subroutines a charstring uses.
+ * whole font; what the strict profile refuses beyond the plain one; charstrings that say their width; which
+ * subroutines a charstring uses; and where a refused one is refused, through its calls.
  *
  *     cc example.c $(pkg-config --cflags --libs ighzamrel)
  */
@@ -22,6 +22,7 @@ static const char *in_words(uint32_t answer)
     case IGHZAMREL_BAD_GLOBALS: return "the font's list of global subroutines is damaged";
     case IGHZAMREL_BAD_LOCALS: return "the font's list of local subroutines is damaged";
     case IGHZAMREL_BUDGET_SPENT: return "the glyph takes more tokens than it may";
+    case IGHZAMREL_UNKNOWN: return "a byte starts no number, or an operator is not supported";
     case IGHZAMREL_NO_ENTRY: return "the glyph calls a subroutine that the font does not have";
     case IGHZAMREL_OPERANDS_AT_MASK: return "the glyph has operands at a hint mask that takes none";
     case IGHZAMREL_NO_ENDCHAR: return "the glyph comes to its end without endchar";
@@ -177,6 +178,70 @@ static void used(void)
     show_used(calls, sizeof calls, two, sizeof two, three, sizeof three);
 }
 
+/* Where a token stands: in which subroutine, the innermost call's, and where each is called. The words have the outermost first. */
+static void show_place(const uint64_t *words, size_t calls)
+{
+    if (calls == 0) {
+        printf("the charstring itself\n");
+        return;
+    }
+    for (; calls > 0; calls--) {
+        const uint64_t *call = words + 3 * (calls - 1);
+        printf("%s subroutine %lu, called at byte %lu of ", call[0] == IGHZAMREL_GLOBAL ? "global" : "local",
+               (unsigned long)call[1], (unsigned long)call[2]);
+    }
+    printf("the charstring\n");
+}
+
+/* 3 to 12 come with the tokens, 15 without; at 16 no token is refused. The budget is spent before a token is begun. */
+static void explain_run(const ighzamrel_explanation *why, const uint64_t *words)
+{
+    int spent = why->answer == IGHZAMREL_BUDGET_SPENT;
+    printf("refusal %u: %s", (unsigned)why->answer, in_words(why->answer));
+    if (why->answer <= IGHZAMREL_COMPOSITE)
+        printf("%s token %u", spent ? " after" : ", at", (unsigned)why->tokens);
+    if (why->answer == IGHZAMREL_NO_ENDCHAR) {
+        printf("\n");
+        return;
+    }
+    printf("; %s stands in ", spent ? "the next token" : "it");
+    show_place(words, why->calls);
+}
+
+/* Why a glyph is refused, and where. So many words have room for every call that can be open. */
+static void show_why(const uint8_t *charstring, size_t charstring_len, const uint8_t *globals, size_t globals_len,
+                     const uint8_t *locals, size_t locals_len)
+{
+    uint64_t words[3 * IGHZAMREL_MOST_CALLS];
+    ighzamrel_explanation why;
+    if (ighzamrel_explain_into(charstring, charstring_len, globals, globals_len, locals, locals_len, IGHZAMREL_PLAIN, BUDGET,
+                               words, sizeof words / sizeof words[0], &why) == IGHZAMREL_ACCEPTED) {
+        printf("accepted: %u bytes in %u tokens\n", (unsigned)why.length, (unsigned)why.tokens);
+        return;
+    }
+    if (why.reason == 0) {
+        explain_run(&why, words);
+        return;
+    }
+    printf("refusal %u: %s: ", (unsigned)why.answer, in_words(why.answer));
+    explain_list(why.reason, why.entry);
+}
+
+static void explained(void)
+{
+    /* -107 callsubr, and a local list whose entry 0 is a byte that starts no token */
+    static const uint8_t call[] = {0x20, 0x0A};
+    static const uint8_t unknown[] = {0x00, 0x01, 0x01, 0x01, 0x02, 0x00};
+    /* 1 hmoveto and a call of global 4, the one that has bytes: a call of local 0 */
+    static const uint8_t nested[] = {0x8C, 0x16, 0x24, 0x1D};
+    static const uint8_t five[] = {0x00, 0x05, 0x01, 0x01, 0x01, 0x01, 0x01, 0x01, 0x03, 0x20, 0x0A};
+    /* entry 0 is a call of entry 1, which is not there */
+    static const uint8_t missing[] = {0x00, 0x01, 0x01, 0x01, 0x03, 0x21, 0x0A};
+    show_why(call, sizeof call, no_list, sizeof no_list, unknown, sizeof unknown);
+    show_why(nested, sizeof nested, five, sizeof five, missing, sizeof missing);
+    show_why(call, sizeof call, no_list, sizeof no_list, no_list, sizeof no_list);
+}
+
 int main(void)
 {
     /* -107 callsubr endchar: with the bias 107, a call of entry 0 of the local list, which is 1 2 rmoveto return */
@@ -213,5 +278,6 @@ int main(void)
     show(IGHZAMREL_PLAIN, wide, sizeof wide, locals, sizeof locals);
     show(IGHZAMREL_PLAIN, narrow, sizeof narrow, no_list, sizeof no_list);
     used();
+    explained();
     return 0;
 }

@@ -5,6 +5,7 @@
 #include "ighzamrel.h"
 
 #include "expect.h"
+#include "explained.h"
 #include "marked.h"
 
 static void numbers_read(const uint8_t *bytes, size_t n, uint32_t answer, uint32_t kind, int32_t value, size_t width)
@@ -440,6 +441,7 @@ static void bad_list(const uint8_t *list, size_t n, uint32_t why, uint32_t bad)
     flattened(charstring, 1, L, sizeof L, list, n, limits, &locals, NULL);
     bad_font(list, n, why, bad);
     bad_list_with_rows(list, n, why, bad);
+    bad_list_explained(list, n, why, bad);
     if (bad != UNTOUCHED)
         entry_read(list, n, bad, why, UNTOUCHED, UNTOUCHED);
 }
@@ -472,7 +474,12 @@ int main(void)
     marks();
     marks_refused();
     fonts();
+    explanations();
+    accepted_explained();
+    long_list_explained(216, 215, 0xF7, 0x00);
+    long_list_explained(1240, 0, 0xFE, 0xFF);
+    refusals_explained();
     bad_lists();
-    printf("smoke: twelve functions, %u checks hold\n", checks);
+    printf("smoke: thirteen functions, %u checks hold\n", checks);
     return 0;
 }

@@ -2,7 +2,7 @@
  * How much stack each function of include/ighzamrel.h uses: it is called on a thread whose stack was painted before,
  * and the lowest byte that lost its paint is counted from the caller's frame. Flattening goes as deep as its profile
  * lets it, each string with hints, a mask, a Fixed and a call by a Fixed index; a font has one such glyph, or so many
- * that their flat strings are more than it keeps.
+ * that their flat strings are more than it keeps. What is explained is accepted, or refused in the deepest string.
  */
 #define _DEFAULT_SOURCE
 #include "ighzamrel.h"
@@ -21,7 +21,8 @@ static long depth;
 static uint32_t answer;
 
 static uint8_t charstring[64], locals[4096], charstrings[64 * MOST_GLYPHS], out[ROOM], globals_row[1], locals_row[8];
-static size_t charstring_len, locals_len, charstrings_len, place, length;
+static uint64_t words[3 * IGHZAMREL_MOST_CALLS];
+static size_t charstring_len, locals_len, charstrings_len, place, length, calls;
 static uint32_t kind, glyph, tokens, entry, reason, width_kind;
 static int32_t value, width;
 static const uint8_t globals[] = {0, 0};
@@ -114,6 +115,23 @@ static void flatten_font(uint32_t profile)
 
 static void flatten_font_plain(void) { flatten_font(IGHZAMREL_PLAIN); }
 static void flatten_font_strict(void) { flatten_font(IGHZAMREL_STRICT); }
+static void explain(uint32_t profile)
+{
+    answer = ighzamrel_explain(charstring, charstring_len, globals, sizeof globals, locals, locals_len, profile, 1000000,
+                               words, 3 * IGHZAMREL_MOST_CALLS, &length, &tokens, &entry, &reason, &width_kind, &width, &calls);
+}
+
+static void explain_plain(void) { explain(IGHZAMREL_PLAIN); }
+static void explain_strict(void) { explain(IGHZAMREL_STRICT); }
+/* The chain ends in a byte that starts no token; what must come is the refusal, with every call of it. */
+static void explain_refused(uint32_t profile)
+{
+    explain(profile);
+    answer = answer != IGHZAMREL_UNKNOWN || calls != locals[1];
+}
+
+static void explain_refused_plain(void) { explain_refused(IGHZAMREL_PLAIN); }
+static void explain_refused_strict(void) { explain_refused(IGHZAMREL_STRICT); }
 static void read_charstring_number(void)
 {
     answer = ighzamrel_read_charstring_number(charstring, charstring_len, &kind, &value, &length);
@@ -169,6 +187,16 @@ static void measure_fonts(const char *few, const char *many, void (*function)(vo
         fail("the flat strings are too few");
 }
 
+/* The chain as it is, and with its endchar replaced by a byte that starts no token. */
+static void measure_explained(const char *accepted, void (*by)(void), const char *refused, void (*refused_by)(void))
+{
+    uint8_t *last = &locals[locals_len - 1];
+    measure(accepted, by);
+    *last = 0x00;
+    measure(refused, refused_by);
+    *last = 0x0E;
+}
+
 int main(void)
 {
     stack = mmap(NULL, STACK, PROT_READ | PROT_WRITE, MAP_PRIVATE | MAP_ANONYMOUS, -1, 0);
@@ -181,12 +209,14 @@ int main(void)
     measure("flatten_marked, plain, 64 strings deep", flatten_marked_plain);
     if (locals_row[0] != 0xFF || locals_row[7] != 0x7F)
         fail("the chain's 63 entries are not marked");
+    measure_explained("explain, plain, 64 strings deep", explain_plain, "explain, plain, refused there", explain_refused_plain);
     measure_fonts("flatten_font, plain, one glyph", "flatten_font, plain, 700 glyphs", flatten_font_plain);
     chain(10);
     measure("flatten, plain, 11 strings deep", flatten_plain);
     measure("flatten, strict, 11 strings deep", flatten_strict);
     measure("flatten_marked, plain, 11 strings deep", flatten_marked_plain);
     measure("flatten_marked, strict, 11 strings deep", flatten_marked_strict);
+    measure_explained("explain, strict, 11 strings deep", explain_strict, "explain, strict, refused there", explain_refused_strict);
     measure_fonts("flatten_font, strict, one glyph", "flatten_font, strict, 700 glyphs", flatten_font_strict);
     measure("read_charstring_number", read_charstring_number);
     measure("read_dict_integer", read_dict_integer);

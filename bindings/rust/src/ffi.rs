@@ -1,7 +1,7 @@
-//! The twelve C functions, each behind a safe function that lends it slices and places of its own.
+//! The thirteen C functions, each behind a safe function that lends it slices and places of its own.
 //!
 //! What include/ighzamrel.h asks of pointers holds of what is lent here: a slice's pointer is valid for its length,
-//! aligned and never null, also where it is empty; `out` is borrowed alone, and so are the rows and the places.
+//! aligned and never null, also where it is empty; `out` is borrowed alone, and so are the rows, the words and the places.
 //! A value whose place the answer leaves as it was is 0; the caller knows by the answer which those are.
 #![allow(unsafe_code)]
 
@@ -130,6 +130,26 @@ pub mod c {
             entry: *mut u32,
             reason: *mut u32,
         ) -> u32;
+
+        pub fn ighzamrel_explain(
+            charstring: *const u8,
+            charstring_len: usize,
+            globals: *const u8,
+            globals_len: usize,
+            locals: *const u8,
+            locals_len: usize,
+            profile: u32,
+            budget: u32,
+            words: *mut u64,
+            words_len: usize,
+            length: *mut usize,
+            tokens: *mut u32,
+            entry: *mut u32,
+            reason: *mut u32,
+            width_kind: *mut u32,
+            width: *mut i32,
+            calls: *mut usize,
+        ) -> u32;
     }
 }
 
@@ -223,7 +243,8 @@ pub fn write_index(lengths: &[u32], data: &[u8], out: &mut [u8]) -> (u32, usize)
     (answer, length)
 }
 
-/// The places of a flattening; `glyph` is one of a whole font's alone, and the width one of a charstring's.
+/// The places of a flattening; `glyph` is one of a whole font's alone, the width one of a charstring's, and `calls` one of an
+/// explanation's.
 #[derive(Default)]
 pub struct Places {
     pub length: usize,
@@ -233,10 +254,15 @@ pub struct Places {
     pub reason: u32,
     pub width_kind: u32,
     pub width: i32,
+    pub calls: usize,
 }
 
 /// The `width_kind` of a charstring that says no width.
 pub const NO_WIDTH: u32 = 2;
+
+/// How many calls can be open at once, and how many words tell one.
+pub const MOST_CALLS: usize = 63;
+pub const CALL_WORDS: usize = 3;
 
 /// The answer; a place that it does not give is left as it was.
 pub fn flatten_to(
@@ -328,6 +354,37 @@ pub fn flatten_font_to(
             &mut places.tokens,
             &mut places.entry,
             &mut places.reason,
+        )
+    }
+}
+
+/// The answer; a place that it does not give is left as it was. The first words tell the calls that were open.
+pub fn explain_to(
+    [charstring, globals, locals]: [&[u8]; 3],
+    profile: u32,
+    budget: u32,
+    words: &mut [u64],
+    places: &mut Places,
+) -> u32 {
+    unsafe {
+        c::ighzamrel_explain(
+            charstring.as_ptr(),
+            charstring.len(),
+            globals.as_ptr(),
+            globals.len(),
+            locals.as_ptr(),
+            locals.len(),
+            profile,
+            budget,
+            words.as_mut_ptr(),
+            words.len(),
+            &mut places.length,
+            &mut places.tokens,
+            &mut places.entry,
+            &mut places.reason,
+            &mut places.width_kind,
+            &mut places.width,
+            &mut places.calls,
         )
     }
 }

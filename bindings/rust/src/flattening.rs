@@ -4,7 +4,7 @@ use crate::ffi;
 use crate::refusal::{told_with, Offered, Refused};
 use crate::{Operand, Profile};
 
-/// An accepted charstring whose flat string was written to lent bytes.
+/// An accepted charstring. Its flat string was written to lent bytes, but by [`explain`](crate::explain), which writes none.
 #[derive(Clone, Copy, Debug, PartialEq, Eq)]
 pub struct Flat {
     /// How many bytes the flat string has; it stands at the start of the lent ones.

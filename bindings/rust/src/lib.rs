@@ -1,7 +1,7 @@
 //! Type 2 charstrings of a CFF font made flat: one string without calls for each glyph, by itself or with all others of
 //! its font ([`flatten_font`]), and the numbers and INDEXes that charstrings stand in.
 //!
-//! This is a thin safe layer over the twelve functions of Ighzamrel's static library. Each takes any bytes, ends, and
+//! This is a thin safe layer over the thirteen functions of Ighzamrel's static library. Each takes any bytes, ends, and
 //! either accepts or gives one numbered [`Refusal`]; what each answers is proved, and this layer is tested. They keep no
 //! state, and but for those that give a `Vec` allocate nothing; any threads may call at once.
 //!
@@ -25,7 +25,8 @@
 //! ```
 //!
 //! [`flatten_marked`] also tells which subroutines a glyph uses, so that only those glyphs are flattened again whose
-//! subroutines have changed.
+//! subroutines have changed. [`explain`] tells where a refused glyph is refused: in which subroutine, and through which
+//! calls.
 //!
 //! # Panics
 //!
@@ -35,6 +36,7 @@
 #![deny(missing_docs)]
 #![deny(unsafe_code)]
 
+mod explaining;
 mod ffi;
 mod flattening;
 mod font;
@@ -43,6 +45,7 @@ mod marking;
 mod number;
 mod refusal;
 
+pub use explaining::{explain, Call, Explanation, List};
 pub use flattening::{flatten, flatten_to_vec, Flat, FlatVec};
 pub use font::{flatten_font, flatten_font_to_vec};
 pub use index::{check_list, read_entry, read_index, write_index, IndexRead, EMPTY_INDEX};

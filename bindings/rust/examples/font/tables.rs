@@ -68,9 +68,14 @@ impl<'a> Font<'a> {
         }
     }
 
+    /// The number of a glyph's Font DICT, where the glyphs choose one.
+    pub fn dict_of(&self, glyph: u32) -> Option<usize> {
+        selected(self.select?, glyph as usize)
+    }
+
     pub fn private_of(&self, glyph: u32) -> Result<Private<'a>, String> {
         let dict = match self.select {
-            Some(select) => selected(select, glyph as usize),
+            Some(_) => self.dict_of(glyph),
             None => Some(0),
         };
         let private = dict.and_then(|dict| self.privates.get(dict));

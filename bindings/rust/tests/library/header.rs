@@ -114,6 +114,7 @@ fn parameter(text: &str) -> String {
     let kind = match kind {
         "uint8_t" => "u8",
         "uint32_t" => "u32",
+        "uint64_t" => "u64",
         "int32_t" => "i32",
         "size_t" => "usize",
         other => panic!("{other} is not known"),
@@ -148,10 +149,22 @@ fn declarations_are_the_headers() {
     assert_eq!(functions, DECLARATIONS.matches("pub fn ighzamrel_").count());
 }
 
+/// A constant of ours has the number of the header's.
+fn is_the_headers(ours: &str, kind: &str) {
+    let (_, rest) = HEADER.split_once(&format!("IGHZAMREL_{ours} = ")).unwrap();
+    let number: String = rest.chars().take_while(char::is_ascii_digit).collect();
+    let ours = format!("pub const {ours}: {kind} = {number};");
+    assert!(DECLARATIONS.contains(&ours), "src/ffi.rs lacks `{ours}`");
+}
+
 #[test]
 fn the_kind_of_no_width_is_the_headers() {
-    let (_, rest) = HEADER.split_once("IGHZAMREL_NO_WIDTH = ").unwrap();
-    let number: String = rest.chars().take_while(char::is_ascii_digit).collect();
-    let ours = format!("pub const NO_WIDTH: u32 = {number};");
-    assert!(DECLARATIONS.contains(&ours), "src/ffi.rs lacks `{ours}`");
+    is_the_headers("NO_WIDTH", "u32");
+}
+
+#[test]
+fn the_most_calls_are_the_headers() {
+    is_the_headers("MOST_CALLS", "usize");
+    let words = format!("{} * IGHZAMREL_MOST_CALLS words", crate::ffi::CALL_WORDS);
+    assert!(HEADER.contains(&words), "the header lacks `{words}`");
 }

@@ -1,5 +1,6 @@
 //! The crate on the examples of docs/RULES.md, its refusals and its lent bytes, and held against the C header.
 
+mod explained;
 mod flattening;
 mod font;
 mod header;
@@ -8,6 +9,7 @@ mod marked;
 mod numbers;
 mod rerun;
 mod whole;
+mod why;
 mod width;
 
 use ighzamrel::{write_index, Refusal, Refused};

@@ -301,6 +301,7 @@ fn a_short_row_gives_no_place() {
             reason: 77,
             width_kind: 77,
             width: 77,
+            calls: 77,
         };
         let [mut first, mut second] = lengths.map(|length| vec![BLANK; length]);
         let lent = [&[0x20, 0x0A, 0x0E], lists[0], lists[1]];
@@ -309,7 +310,7 @@ fn a_short_row_gives_no_place() {
         assert_eq!(answer, Refusal::RowTooShort.number());
         assert_eq!((places.length, places.tokens, places.entry), (77, 77, 77));
         assert_eq!((places.reason, places.width_kind), (77, 77));
-        assert_eq!((places.width, places.glyph), (77, 77));
+        assert_eq!((places.width, places.glyph, places.calls), (77, 77, 77));
     }
 }
 
