@@ -188,3 +188,33 @@ module _ (p : Operator) (rest : List ℕ) (f : p .escaped ≡ false) where
       go : (a : Answer Number) → cutBy bytes a ≡ token (operator p) rest → suc (length rest) ≡ length bytes
       go (accepted x) q = no-operator (x .operand) p rest _ q
       go (refused n v) q = one-operator bytes (eqb n 6) q
+
+-- ---- the bytes behind a token are the last ones of those before it
+
+abbrev pub Behind : List ℕ → List ℕ → Type 0
+Behind bytes rest = (n : ℕ) × (rest ≡ drop n bytes)
+
+module _ (t : Token) (rest : List ℕ) where
+  behind-escape : (b : ℕ) (s : List ℕ) → escapedAt s ≡ token t rest → Behind (b ∷ s) rest
+  unfolding escapedAt
+  behind-escape b [] e = no-token t rest e
+  behind-escape b (c ∷ s) e = (2, sym (rest-is t _ rest s e))
+
+  behind-byte : (b : ℕ) (s : List ℕ) (x : Bool) → cond x (escapedAt s) (token (operator (record { escaped = false; byte = b })) s) ≡ token t rest
+      → Behind (b ∷ s) rest
+  behind-byte b s true e = behind-escape b s e
+  behind-byte b s false e = (1, sym (rest-is t _ rest s e))
+
+  behind-operator : (bytes : List ℕ) (x : Bool) → cond x (operatorAt bytes) lacking ≡ token t rest → Behind bytes rest
+  unfolding operatorAt
+  behind-operator [] true e = no-token t rest e
+  behind-operator (b ∷ s) true e = behind-byte b s (eqb b 12) e
+  behind-operator bytes false e = no-token t rest e
+
+pub cut-behind : (bytes : List ℕ) (t : Token) (rest : List ℕ) → cut bytes ≡ token t rest → Behind bytes rest
+unfolding cut cutBy
+cut-behind bytes t rest q = go (readBy charstringRows bytes) q
+  where
+    go : (a : Answer Number) → cutBy bytes a ≡ token t rest → Behind bytes rest
+    go (accepted x) q = (x .width, sym (rest-is t _ rest (drop (x .width) bytes) q))
+    go (refused n v) q = behind-operator t rest bytes (eqb n 6) q

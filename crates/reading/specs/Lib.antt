@@ -12,6 +12,7 @@ pub mod Masks
 pub mod Widths
 pub mod Demands
 pub mod MarkedDemands
+pub mod ExplainedDemands
 pub mod CutLaws
 pub mod StepLaws
 pub mod RunLaws
@@ -33,5 +34,9 @@ pub mod EnteredLaws
 pub mod MarkingLaws
 pub mod RowLaws
 pub mod MarkedDemandLaws
+pub mod ChainLaws
+pub mod ExplainedLaws
+pub mod ExplainedWordLaws
 pub mod Rows
 pub mod MarkedRows
+pub mod ExplainedRows

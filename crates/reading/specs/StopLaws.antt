@@ -79,6 +79,9 @@ module _ (rules : Rules) (lists : Lists) (budget : ℕ) where
   pub run-stops-by : (cs : List ℕ) → StopsBy rules (reading rules lists budget cs .how) (reading rules lists budget cs .state)
   run-stops-by cs = kept rules lists budget _ _ _ stops-kept cs tt tt
 
+  pub run-refusal : (cs : List ℕ) (k : ℕ) → reading rules lists budget cs .how ≡ stopped k → RunRefusal k
+  run-refusal cs k e = let r = reading rules lists budget cs in subst EndsSo e (ends-so rules (r .how) (r .state) (run-stops-by cs))
+
   -- what a charstring is refused with
   pub judged-refused : (cs : List ℕ) (k : ℕ) (v : Values) → judged rules (reading rules lists budget cs) ≡ refused k v → OwnRefusal rules k
   judged-refused cs k v e = let r = reading rules lists budget cs in go-by r (run-stops-by cs) (judged rules r) (judged-so rules r) e
