@@ -1,6 +1,6 @@
 -- How a string ends that is run: its bytes run out, a return, an endchar, a refusal. Assumes nothing.
 use mathlib.Core.Path.{_≡_, refl, sym, ap, subst, _∙_}
-use mathlib.Core.List.{List, [], _++_}
+use mathlib.Core.List.{List, _++_}
 use Prim.Native.Nat.{ℕ, suc, _+_, _≤_, _<_}
 use native.Mathlib.Omega.{arith}
 use lib.ListN.{length, drop, length-append}
@@ -21,7 +21,7 @@ use Rattle.charstring.specs.WordsLaws.{sets-begins}
 use Rattle.charstring.specs.Marks.{Says}
 use Rattle.charstring.specs.MarksLaws.{says-item, says-return}
 use Rattle.charstring.specs.States.{returned, finished}
-use Rattle.charstring.specs.Run.{AtOperator, Refuses, Begins, Holds, Repr, howOf, settledAt, Setup, whole, Here, Done, Opened, Finishes}
+use Rattle.charstring.specs.Run.{AtOperator, Refuses, Begins, Holds, Repr, howOf, settledAt, Setup, whole, Here, Done, EndsIn}
 use Rattle.charstring.specs.HereLaws.{settled-so, stepped, counted-as, taken, led, halts, runs-out}
 use Rattle.charstring.specs.declared.state.State.{State}
 use Rattle.charstring.specs.declared.stretch.Ending.{Ending}
@@ -32,17 +32,11 @@ ended-not-back e = let z : _≡_ {A = ℕ} 0 1 = cc in omega arith
 
 module _ (u : Setup) (stack out : List ℕ) (s : State) (i : ℕ) (h : Here u stack out s i) where
   abbrev pub EndsWith : Ending → State → List ℕ → Type 0
-  EndsWith how st out₁ = Finishes u stack out₁ (u .marks) (record { how = how; st = st; levels = u .levels })
+  EndsWith how st out₁ = EndsIn u stack out₁ (u .marks) (record { how = how; st = st })
 
   -- a string that ends in itself has no call open
-  ends-open : {y : Now} → whole u .state ≡ y → y .within ≡ h .now .within → Opened (u .levels) (u .levels) (u .start) (whole u)
-  ends-open e q =
-      record {
-        newer = [];
-        open-is = ap (λ (z : Now). z .within) e ∙ q ∙ h .open-is;
-        deep = omega arith;
-        all-closed = λ z. refl;
-      }
+  ends-open : {y : Now} → whole u .state ≡ y → y .within ≡ h .now .within → whole u .state .within ≡ u .start .within
+  ends-open e q = ap (λ (z : Now). z .within) e ∙ q ∙ h .open-is
 
   -- what the marks say of a state, they say of the run that ends with it
   says : {x y : Now} → x ≡ y → Says (u .globals) (u .marks) (y .shown) → Says (u .globals) (u .marks) (x .shown)
@@ -50,7 +44,7 @@ module _ (u : Setup) (stack out : List ℕ) (s : State) (i : ℕ) (h : Here u st
 
   -- the state is as it was before the token
   kept : (e : Ending) (x : Run) → howOf e ≡ x .how → x .state ≡ h .now
-      → Done (u .rules) (u .globals) stack out (u .marks) (record { how = e; st = s; levels = u .levels }) x
+      → Done (u .rules) (u .globals) stack out (u .marks) (record { how = e; st = s }) x
   kept e x q n =
       let r = h .repr in
       record {

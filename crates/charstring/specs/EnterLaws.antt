@@ -295,7 +295,7 @@ module _ (u : Setup) (stack out : List ℕ) (s : State) (i : ℕ) (h : Here u st
       abbrev d : Done (u .rules) (u .globals) stack₁ out₁ marks₁ r (whole deeper)
       d = ended .0
 
-      abbrev o : Opened (deeper .levels) (r .levels) (deeper .start) (whole deeper)
+      abbrev o : Opened (deeper .levels) (deeper .start) (whole deeper)
       o = ended .1
 
       -- it came back, and the caller goes on
@@ -335,8 +335,8 @@ module _ (u : Setup) (stack out : List ℕ) (s : State) (i : ℕ) (h : Here u st
               open-is =
                   ap (λ (x : Run). x .state .within) same-run ∙ o .open-is ∙ ap (λ (l : List Entering). o .newer ++ (entering ∷ l)) (h .open-is)
                   ∙ sym (append-assoc (o .newer) (entering ∷ []) (u .start .within));
-              deep =
-                  let q = o .deep in
+              few =
+                  let q = o .few in
                   omega (arith, length-append (o .newer) (entering ∷ []), some-level (u .levels) (found .levels-left));
               all-closed = λ z. absurd (n (how-back (r .how) (d .how ∙ sym (ap (λ (x : Run). x .how) same-run) ∙ z)));
             },

@@ -1,10 +1,12 @@
 pub mod Words
 pub mod Marks
 pub mod Notes
+pub mod Telling
 pub mod States
 pub mod Run
 pub mod WordsLaws
 pub mod MarksLaws
+pub mod TellingLaws
 pub mod NotesLaws
 pub mod AdvanceLaws
 pub mod LookLaws

@@ -1,8 +1,8 @@
 -- What a turn of `run` comes to, whatever state of the reading it started from: a stretch that ends the string, and a call. Assumes nothing.
 use mathlib.Core.Path.{_≡_, refl, sym, ap, subst, _∙_}
 use mathlib.Core.Bool.{Bool}
-use mathlib.Core.List.{List}
-use Prim.Native.Nat.{ℕ, zero, suc, _+_, _-_, _≤_, _<_}
+use mathlib.Core.List.{List, []}
+use Prim.Native.Nat.{ℕ, zero, suc, _+_, _-_, _≤_, _<_, zero-le}
 use native.Mathlib.Omega.{arith}
 use lib.ListN.{length, getD, take, drop}
 use Rattle.number.specs.Number.{charstringRows}
@@ -10,10 +10,10 @@ use Rattle.number.specs.Written.{spelling}
 use Rattle.number.specs.AnswerLaws.{accepted-same}
 use Rattle.number.specs.Call.{callee}
 use Rattle.number.specs.declared.Operand.{Operand}
-use Rattle.reading.specs.Rules.{meant}
+use Rattle.reading.specs.Rules.{Rules, meant}
 use Rattle.reading.specs.Lists.{chosen, listsOf}
 use Rattle.reading.specs.Tokens.{Bytes}
-use Rattle.reading.specs.Reading.{Entering, Ending as How, stopped, State as Now}
+use Rattle.reading.specs.Reading.{Entering, Ending as How, back, stopped, Run, State as Now}
 use Rattle.reading.specs.Answers.{numberOf}
 use Rattle.reading.specs.Explained.{openBy}
 use Rattle.reading.specs.SameGlyphLaws.{lists-bytes}
@@ -25,7 +25,7 @@ use Rattle.charstring.specs.Marks.{bitOf, markedAt, Says}
 use Rattle.charstring.specs.Notes.{noteAt, noted}
 use Rattle.charstring.specs.NotesLaws.{nothing-noted, unless-refused, noted-around, call-place}
 use Rattle.charstring.specs.States.{entered}
-use Rattle.charstring.specs.Run.{CallsAt, Repr, howOf, Setup, whole, Here, Finishes, notes, Roomy, Reached, Standing, StretchesTo}
+use Rattle.charstring.specs.Run.{CallsAt, Repr, howOf, Setup, whole, Here, Done, Finishes, EndsIn, behind, notes, Roomy, Reached, Standing, StretchesTo}
 use Rattle.charstring.specs.Run.{chosenCount, Setting, Sound, grounded, around, RunsTo}
 use Rattle.charstring.specs.HereLaws.{begin}
 use Rattle.charstring.specs.EnterLaws.{Named, by-no, found, entering, deeper, inner-marks, inner-repr, index-fits, came-back, passed-on}
@@ -40,6 +40,9 @@ use Rattle.charstring.specs.declared.stretch.Ran.{Ran}
 use Rattle.charstring.specs.declared.stretch.Stretched.{Stretched}
 use Rattle.charstring.specs.declared.subroutines.Target.{Target}
 use Rattle.charstring.specs.declared.subroutines.Target.the-variants.{Enter, No}
+
+refused-no-back : (v : Refusal) → stopped (numberOf v) ≡ back → ⊥
+refused-no-back v e = let w : _≡_ {A = ℕ} 0 1 = cc in omega arith
 
 other-list : {A : Type 0} → Local ≡ Global → A
 other-list e = let z : _≡_ {A = ℕ} 0 1 = cc in absurd (omega arith)
@@ -56,12 +59,26 @@ ended-no-refusal e k p q = let w : _≡_ {A = ℕ} 0 1 = cc in omega arith
 pub back-no-refusal : (e : Ending) (k : ℕ) → e ≡ Back → howOf e ≡ stopped k → ⊥
 back-no-refusal e k p q = let w : _≡_ {A = ℕ} 0 1 = cc in omega arith
 
+-- once a run is refused, nothing is said of the stack's operands
+other-stack : {rules : Rules} {globals : ℕ} {stack₁ out₁ marks₁ : List ℕ} {r : Ran} {x : Run} {v : Refusal}
+    → Done rules globals stack₁ out₁ marks₁ r x → r .how ≡ Refused v → (stack₂ : List ℕ) → Done rules globals stack₂ out₁ marks₁ r x
+other-stack {v = v} d e stack₂ =
+    record {
+      how = d .how;
+      tokens-are = d .tokens-are;
+      length-is = d .length-is;
+      bytes = d .bytes;
+      advance-is = d .advance-is;
+      marked = d .marked;
+      on = λ z. absurd (refused-no-back v (sym (ap howOf e) ∙ d .how ∙ z));
+    }
+
 -- one level fewer is one call more
 one-deeper : (top levels : ℕ) → levels ≤ top → (levels ≡ 0 → ⊥) → top - (levels - 1) ≡ top - levels + 1
 one-deeper top zero h n = absurd (n refl)
 one-deeper top (suc levels) h n = omega arith
 
-module _ (cs globals locals : List ℕ) (by : Limits) (levels : ℕ) (stack₀ out₀ marks₀ words₀ : List ℕ) (s₀ : State) where
+module _ (cs globals locals : List ℕ) (by : Limits) (levels : ℕ) (stack₀ out₀ marks₀ : List ℕ) (s₀ : State) where
   -- what is asked of each state of the reading that the first state and marks stand for
   abbrev pub Each : (Now → Type 0) → Type 0
   Each P = (t : Now) → Repr (meant (by .rules)) stack₀ out₀ s₀ t → Says (by .globals) marks₀ (t .shown) → P t
@@ -70,14 +87,16 @@ module _ (cs globals locals : List ℕ) (by : Limits) (levels : ℕ) (stack₀ o
   abbrev pub Stands : List ℕ → List ℕ → List ℕ → State → ℕ → Type 0
   Stands stack out marks s i = Each (λ t. Here (around cs globals locals by levels t marks) stack out s i)
 
-  abbrev pub Gives : Ran → List ℕ → List ℕ → List ℕ → List ℕ → Type 0
-  Gives r stack out marks words = RunsTo cs globals locals by s₀ stack₀ out₀ marks₀ words₀ levels r stack out marks words
+  abbrev pub Gives : Ran → List ℕ → List ℕ → List ℕ → Type 0
+  Gives r stack out marks = RunsTo cs globals locals by s₀ stack₀ out₀ marks₀ levels r stack out marks
 
   -- a string that ends in itself notes nothing
-  ends-here : (u : Setup) (stack out marks words : List ℕ) (r : Ran) (around : ℕ) → r .levels ≡ u .levels → words ≡ words₀
-      → Finishes u stack out marks r → (e : Finishes u stack out marks r) × (words ≡ notes around words₀ u (e .1 .newer))
-  ends-here u stack out marks words r around same are e =
-      (e, are ∙ sym (nothing-noted words₀ around (e .1 .newer) (whole u .how) (let q = e .1 .deep in omega arith)))
+  ends-here : (u : Setup) (stack out marks : List ℕ) (r : Ran) (around : ℕ) → behind by stack ≡ behind by stack₀ → EndsIn u stack out marks r
+      → (e : Finishes u stack out marks r) × (behind by stack ≡ notes around (behind by stack₀) u (e .1 .newer))
+  ends-here u stack out marks r around same e = (
+    (e .0, record { newer = []; open-is = e .1; few = zero-le; all-closed = λ z. refl }),
+    same ∙ sym (nothing-noted (behind by stack₀) around (whole u .how)),
+  )
 
   pub begins : Bytes cs → Bytes globals → Bytes locals → Stands stack₀ out₀ marks₀ s₀ 0
   begins b g l = λ t r m.
@@ -85,6 +104,7 @@ module _ (cs globals locals : List ℕ) (by : Limits) (levels : ℕ) (stack₀ o
 
   pub record Turn (stack out marks : List ℕ) (s : State) (i : ℕ) : Type 0 where
     pub same-stack : length stack ≡ length stack₀
+    pub same-behind : behind by stack ≡ behind by stack₀
     pub setting : Setting globals locals by stack₀
     pub sound : Sound by stack₀ out₀ marks₀ s₀
     pub stands : Stands stack out marks s i
@@ -111,17 +131,17 @@ module _ (cs globals locals : List ℕ) (by : Limits) (levels : ℕ) (stack₀ o
     stands-on = (_, h .stands (h .sound .0) (h .sound .1) (h .sound .2))
 
     -- a stretch from there that ended the string
-    pub arm-done : (r : Stretched) (stack₁ out₁ : List ℕ) → StretchesTo cs by stack out s i r stack₁ out₁
-        → (how : Ending) → r .stop ≡ Finished how → (words : List ℕ) → words ≡ words₀
-        → Gives (record { how = how; st = r .st; levels = levels }) stack₁ out₁ marks words
+    pub arm-done : (r : Stretched) (stack₁ out₁ : List ℕ) → StretchesTo cs by stack out s i r stack₁ out₁ → behind by stack₁ ≡ behind by stack
+        → (how : Ending) → r .stop ≡ Finished how → Gives (record { how = how; st = r .st }) stack₁ out₁ marks
     unfolding StretchesTo RunsTo
-    arm-done r stack₁ out₁ d how e words are = λ t p m.
-        ends-here (around cs globals locals by levels t marks) stack₁ out₁ marks words _ _ refl are
+    arm-done r stack₁ out₁ d same how e = λ t p m.
+        ends-here (around cs globals locals by levels t marks) stack₁ out₁ marks _ _ (same ∙ h .same-behind)
         (subst (λ (x : Stop). Reached cs by (grounded globals locals by levels t marks) i stack₁ out₁ (r .st) x) e (d _ (h .stands t p m)))
 
   -- ---- a stretch that stands before a call, with the state r
 
   pub record Before (i : ℕ) (r : State) (stack out marks : List ℕ) (next : ℕ) (w : Which) : Type 0 where
+    pub same-behind : behind by stack ≡ behind by stack₀
     pub setting : Setting globals locals by stack
     pub sound : Sound by stack₀ out₀ marks₀ s₀
     pub stands : Each
@@ -129,11 +149,12 @@ module _ (cs globals locals : List ℕ) (by : Limits) (levels : ℕ) (stack₀ o
         × CallsAt (meant (by .rules)) cs j (by .budget) r next w)
 
   pub before : (stack out marks : List ℕ) (s : State) (i : ℕ) → Turn stack out marks s i → (r : Stretched) (stack₁ out₁ : List ℕ)
-      → StretchesTo cs by stack out s i r stack₁ out₁ → length stack₁ ≡ length stack → (next : ℕ) (w : Which) → r .stop ≡ Calling next w
-      → Before i (r .st) stack₁ out₁ marks next w
+      → StretchesTo cs by stack out s i r stack₁ out₁ → behind by stack₁ ≡ behind by stack → length stack₁ ≡ length stack
+      → (next : ℕ) (w : Which) → r .stop ≡ Calling next w → Before i (r .st) stack₁ out₁ marks next w
   unfolding StretchesTo
-  before stack out marks s i h r stack₁ out₁ d same next w e =
+  before stack out marks s i h r stack₁ out₁ d still same next w e =
       record {
+        same-behind = still ∙ h .same-behind;
         setting = setting-now stack out marks s i h stack₁ same;
         sound = h .sound;
         stands = λ t p m.
@@ -185,12 +206,11 @@ module _ (cs globals locals : List ℕ) (by : Limits) (levels : ℕ) (stack₀ o
         by-which Local = record { is-list = refl; is-count = b .setting .local-count; is-globals = λ e. other-list e }
         by-which Global = record { is-list = refl; is-count = b .setting .global-count; is-globals = λ e. refl }
 
-    pub arm-no : (k : Refusal) → Aims (No k) → (words : List ℕ) → words ≡ words₀
-        → Gives (record { how = Refused k; st = r; levels = levels }) stack out marks words
+    pub arm-no : (k : Refusal) → Aims (No k) → Gives (record { how = Refused k; st = r }) stack out marks
     unfolding RunsTo
-    arm-no k e words are = λ t p m.
+    arm-no k e = λ t p m.
         let x = b .stands t p m in
-        ends-here (around cs globals locals by levels t marks) stack out marks words _ _ refl are
+        ends-here (around cs globals locals by levels t marks) stack out marks _ _ (b .same-behind)
         (by-no _ stack out r (x .0) (x .2) w next (x .3) list-of (chosenCount w by) (named t) k e)
 
     module _ (k from to : ℕ) (e : Aims (Enter k from to)) (e′ : Numbered (Enter k from to)) where
@@ -239,16 +259,13 @@ module _ (cs globals locals : List ℕ) (by : Limits) (levels : ℕ) (stack₀ o
             (_, inner (sound .0) (sound .1) (sound .2), inner-says (sound .0) (sound .1) (sound .2))
 
         module _ (list : List ℕ) (its : list ≡ list-of) (marked : List ℕ) (is-marked : marked ≡ with-mark)
-            (words : List ℕ) (same-words : words ≡ words₀) (r₁ : Ran) (stack₁ out₁ marks₁ words₁ : List ℕ)
-            (ran : RunsTo (take (to - from) (drop from list)) globals locals by s stack out marked words (levels - 1)
-            r₁ stack₁ out₁ marks₁ words₁) where
-          abbrev Runs : List ℕ → List ℕ → List ℕ → Type 0
-          Runs l m v = RunsTo (take (to - from) (drop from l)) globals locals by s stack out m v (levels - 1) r₁ stack₁ out₁ marks₁ words₁
+            (r₁ : Ran) (stack₁ out₁ marks₁ : List ℕ)
+            (ran : RunsTo (take (to - from) (drop from list)) globals locals by s stack out marked (levels - 1) r₁ stack₁ out₁ marks₁) where
+          abbrev Runs : List ℕ → List ℕ → Type 0
+          Runs l m = RunsTo (take (to - from) (drop from l)) globals locals by s stack out m (levels - 1) r₁ stack₁ out₁ marks₁
 
-          ran-there : Runs list-of with-mark words₀
-          ran-there =
-              subst (λ (l : List ℕ). Runs l with-mark words₀) its
-              (subst (λ (l : List ℕ). Runs list l words₀) is-marked (subst (Runs list marked) same-words ran))
+          ran-there : Runs list-of with-mark
+          ran-there = subst (λ (l : List ℕ). Runs l with-mark) its (subst (Runs list) is-marked ran)
 
           module _ (t : Now) (p : Repr (meant (by .rules)) stack₀ out₀ s₀ t) (m : Says (by .globals) marks₀ (t .shown)) where
             abbrev inner-setup : Setup
@@ -257,10 +274,13 @@ module _ (cs globals locals : List ℕ) (by : Limits) (levels : ℕ) (stack₀ o
                 deeper (around cs globals locals by levels t marks) stack out r (x .0) (x .2) w next (x .3) list-of (chosenCount w by)
                 (named t) k from to e e′
 
+            -- the run of the entry, and what it noted
             inner-ran : (f : Finishes inner-setup stack₁ out₁ marks₁ r₁)
-                × (words₁ ≡ notes (by .rules .levels - (levels - 1)) words₀ inner-setup (f .1 .newer))
+                × (behind by stack₁ ≡ notes (by .rules .levels - (levels - 1)) (behind by stack₀) inner-setup (f .1 .newer))
             unfolding RunsTo
-            inner-ran = ran-there _ (inner t p m) (inner-says t p m)
+            inner-ran =
+                let f = ran-there _ (inner t p m) (inner-says t p m) in
+                (f .0, f .1 ∙ ap (λ (l : List ℕ). notes (by .rules .levels - (levels - 1)) l inner-setup (f .0 .1 .newer)) (b .same-behind))
 
           arm-back : r₁ .how ≡ Back → Stands stack₁ out₁ marks₁ (r₁ .st) next
           arm-back c = λ t p m.
@@ -269,13 +289,13 @@ module _ (cs globals locals : List ℕ) (by : Limits) (levels : ℕ) (stack₀ o
               (named t) k from to e e′ r₁ stack₁ out₁ marks₁ (inner-ran t p m .0) c
 
           -- where it comes back or ends everything, nothing is noted
-          words-stay : (c : (k : ℕ) → howOf (r₁ .how) ≡ stopped k → ⊥) → words₁ ≡ words₀
+          unnoted : ((k : ℕ) → howOf (r₁ .how) ≡ stopped k → ⊥) → behind by stack₁ ≡ behind by stack₀
           unfolding Sound
-          words-stay c =
+          unnoted c =
               let f = inner-ran (b .sound .0) (b .sound .1) (b .sound .2) in
-              f .1 ∙ unless-refused words₀ _ (f .0 .1 .newer) _ (λ k z. c k (f .0 .0 .how ∙ z))
+              f .1 ∙ unless-refused (behind by stack₀) _ (f .0 .1 .newer) _ (λ k z. c k (f .0 .0 .how ∙ z))
 
-          arm-ended : r₁ .how ≡ Ended → Gives r₁ stack₁ out₁ marks₁ words₁
+          arm-ended : r₁ .how ≡ Ended → Gives r₁ stack₁ out₁ marks₁
           unfolding RunsTo
           arm-ended c = λ t p m.
               let x = b .stands t p m in
@@ -284,15 +304,15 @@ module _ (cs globals locals : List ℕ) (by : Limits) (levels : ℕ) (stack₀ o
               passed-on _ stack out r (x .0) (x .2) w next (x .3) list-of (chosenCount w by)
               (named t) k from to e e′ r₁ stack₁ out₁ marks₁ (f .0) (ended-goes (r₁ .how) c) .0 in (
                 g,
-                words-stay (λ k z. ended-no-refusal (r₁ .how) k c z)
-                    ∙ sym (unless-refused words₀ _ (g .1 .newer) _ (λ k z. ended-no-refusal (r₁ .how) k c (g .0 .how ∙ z))),
+                unnoted (λ k z. ended-no-refusal (r₁ .how) k c z)
+                    ∙ sym (unless-refused (behind by stack₀) _ (g .1 .newer) _ (λ k z. ended-no-refusal (r₁ .how) k c (g .0 .how ∙ z))),
               )
 
           -- where it is refused, the call is noted before those that are open in it
-          arm-refused : (v : Refusal) → r₁ .how ≡ Refused v → levels ≤ by .rules .levels → (words₂ : List ℕ)
-              → words₂ ≡ noteAt words₁ (by .rules .levels - levels) w k (next - 1) → Gives r₁ stack₁ out₁ marks₁ words₂
+          arm-refused : (v : Refusal) → r₁ .how ≡ Refused v → levels ≤ by .rules .levels → (stack₂ : List ℕ)
+              → behind by stack₂ ≡ noteAt (behind by stack₁) (by .rules .levels - levels) w k (next - 1) → Gives r₁ stack₂ out₁ marks₁
           unfolding RunsTo
-          arm-refused v c deep words₂ noted-so = λ t p m.
+          arm-refused v c deep stack₂ noted-so = λ t p m.
               let x = b .stands t p m in
               let f = inner-ran t p m in
               let u = around cs globals locals by levels t marks in
@@ -304,37 +324,38 @@ module _ (cs globals locals : List ℕ) (by : Limits) (levels : ℕ) (stack₀ o
               entering u stack out r (x .0) (x .2) w next (x .3) list-of (chosenCount w by) (named t) k from to e e′ in
               let there =
               found u stack out r (x .0) (x .2) w next (x .3) list-of (chosenCount w by) (named t) k from to e e′ in
+              let top = by .rules .levels in
+              let inner-notes = noted (behind by stack₀) (top - levels + 1) (openBy (f .0 .1 .newer) (stopped (numberOf v))) in
               let stop : whole u .how ≡ stopped (numberOf v) = sym (g .0 .how) ∙ ap howOf c in
               let stop-in : whole (inner-setup t p m) .how ≡ stopped (numberOf v) = sym (f .0 .0 .how) ∙ ap howOf c in
               let placed : here .at ≡ next - 1 =
               call-place (by .rules .ends) (x .3 .0) w cs (x .0) next (x .3 .2) (x .3 .1 .cut-is) (x .3 .1 .begun .inside) in
-              let numbered : k ≡ here .entry = accepted-same (sym e′ ∙ there .names) in (
-                g,
+              let numbered : k ≡ here .entry = accepted-same (sym e′ ∙ there .names) in
+              let noted-in : behind by stack₁ ≡ inner-notes =
+              f .1 ∙ ap (λ (h : How). noted (behind by stack₀) (top - (levels - 1)) (openBy (f .0 .1 .newer) h)) stop-in
+              ∙ ap (λ (n : ℕ). noted (behind by stack₀) n (openBy (f .0 .1 .newer) (stopped (numberOf v))))
+              (one-deeper top levels deep (there .levels-left)) in (
+                (other-stack (g .0) c stack₂, g .1),
                 noted-so
-                    ∙ ap (λ (l : List ℕ). noteAt l (by .rules .levels - levels) w k (next - 1)) (f .1
-                    ∙ ap (λ (h : How). noted words₀ (by .rules .levels - (levels - 1)) (openBy (f .0 .1 .newer) h)) stop-in
-                    ∙ ap (λ (n : ℕ). noted words₀ n (openBy (f .0 .1 .newer) (stopped (numberOf v))))
-                    (one-deeper (by .rules .levels) levels deep (there .levels-left)))
-                    ∙ ap (λ (n : ℕ). noteAt (noted words₀ (by .rules .levels - levels + 1) (openBy (f .0 .1 .newer) (stopped (numberOf v))))
-                    (by .rules .levels - levels) w n (next - 1)) numbered
-                    ∙ ap (λ (n : ℕ). noteAt (noted words₀ (by .rules .levels - levels + 1) (openBy (f .0 .1 .newer) (stopped (numberOf v))))
-                    (by .rules .levels - levels) w (here .entry) n) (sym placed)
-                    ∙ noted-around words₀ (by .rules .levels - levels) (f .0 .1 .newer) here (numberOf v)
-                    ∙ ap (λ (l : List Entering). noted words₀ (by .rules .levels - levels) (openBy l (stopped (numberOf v)))) (sym (ends-so .1))
-                    ∙ ap (λ (h : How). noted words₀ (by .rules .levels - levels) (openBy (g .1 .newer) h)) (sym stop),
+                    ∙ ap (λ (l : List ℕ). noteAt l (top - levels) w k (next - 1)) noted-in
+                    ∙ ap (λ (n : ℕ). noteAt inner-notes (top - levels) w n (next - 1)) numbered
+                    ∙ ap (λ (n : ℕ). noteAt inner-notes (top - levels) w (here .entry) n) (sym placed)
+                    ∙ noted-around (behind by stack₀) (top - levels) (f .0 .1 .newer) here (numberOf v)
+                    ∙ ap (λ (l : List Entering). noted (behind by stack₀) (top - levels) (openBy l (stopped (numberOf v)))) (sym (ends-so .1))
+                    ∙ ap (λ (h : How). noted (behind by stack₀) (top - levels) (openBy (g .1 .newer) h)) (sym stop),
               )
 
           -- what the run of an entry comes to: the caller goes on, or all is over
           pub record Behind : Type 0 where
-            pub goes-on : r₁ .how ≡ Back → Stands stack₁ out₁ marks₁ (r₁ .st) next × (words₁ ≡ words₀)
-            pub ended : r₁ .how ≡ Ended → Gives r₁ stack₁ out₁ marks₁ words₁
-            pub refused : (v : Refusal) → r₁ .how ≡ Refused v → levels ≤ by .rules .levels → (words₂ : List ℕ)
-                → words₂ ≡ noteAt words₁ (by .rules .levels - levels) w k (next - 1) → Gives r₁ stack₁ out₁ marks₁ words₂
+            pub goes-on : r₁ .how ≡ Back → Stands stack₁ out₁ marks₁ (r₁ .st) next × (behind by stack₁ ≡ behind by stack₀)
+            pub ended : r₁ .how ≡ Ended → Gives r₁ stack₁ out₁ marks₁
+            pub refused : (v : Refusal) → r₁ .how ≡ Refused v → levels ≤ by .rules .levels → (stack₂ : List ℕ)
+                → behind by stack₂ ≡ noteAt (behind by stack₁) (by .rules .levels - levels) w k (next - 1) → Gives r₁ stack₂ out₁ marks₁
 
-          pub behind : Behind
-          behind =
+          pub behind-run : Behind
+          behind-run =
               record {
-                goes-on = λ c. (arm-back c, words-stay (λ k z. back-no-refusal (r₁ .how) k c z));
+                goes-on = λ c. (arm-back c, unnoted (λ k z. back-no-refusal (r₁ .how) k c z));
                 ended = arm-ended;
                 refused = arm-refused;
               }

@@ -1,25 +1,26 @@
--- The notes of a refused run are the words of its open calls. Assumes nothing.
+-- What a refused run notes is its open calls. Assumes nothing.
 use mathlib.Core.Path.{_≡_, refl, sym, ap, subst, _∙_}
 use mathlib.Core.Bool.{Bool, true, false, cond}
-use mathlib.Core.List.{List, [], _∷_, _++_, append-assoc, reverseAux-append}
-use Prim.Native.Nat.{ℕ, zero, suc, _+_, _-_, _*_, _/_, _≤_, _<_}
+use mathlib.Core.List.{List, [], _∷_, _++_, append-nil, append-assoc, reverseAux-append}
+use Prim.Native.Nat.{ℕ, zero, suc, _+_, _-_, _*_, _≤_, _<_, zero-le}
+use native.Mathlib.Nat.{le-refl, le-of-eq}
 use native.Mathlib.Omega.{arith}
 use lib.Dec.{ltb}
-use lib.ListN.{length, set, take, drop, length-drop, take-append-drop}
-use lib.Seq.{sets, length-sets, sets-eq, length-take-le, take-append-le, drop-append-seam, take-take, drop-drop}
-use borrow.Author.Tests.{lt-ltb, le-ltb, ltb-true, ltb-false}
-use Rattle.number.specs.Answer.{Answer}
-use Rattle.reading.specs.Rules.{Rules, among, byteKind, escapedKind, kindBy}
+use lib.ListN.{length, take, drop, replicate, length-drop, take-append-drop, length-replicate, length-reverse, drop-of-length-le}
+use lib.Seq.{sets, length-sets, sets-eq, length-take-le, take-append-le, drop-append-seam, take-take}
+use borrow.Author.Tests.{lt-ltb}
+use borrow.Rule.Slice.PartMut.{postOf, putMid, post-is}
+use Rattle.reading.specs.Rules.{among, byteKind, escapedKind, kindBy}
 use Rattle.reading.specs.Tokens.{operator, token, cut}
 use Rattle.reading.specs.CutLaws.{cut-one}
-use Rattle.reading.specs.Reading.{Entering, Ending as How, back, ended, stopped, Run}
-use Rattle.reading.specs.Answers.{Flattening, verdict}
-use Rattle.reading.specs.Explained.{openBy, openCalls, ofRun, listWord, callWords, Explaining, wordsLeft, inWords}
+use Rattle.reading.specs.Reading.{Entering, Ending as How, back, ended, stopped}
+use Rattle.reading.specs.Explained.{openBy}
 use Rattle.reading.specs.declared.Operator.{Operator}
 use Rattle.reading.specs.declared.Which.{Which}
 use Rattle.reading.specs.declared.Kind.{Kind}
 use Rattle.reading.specs.declared.Kind.the-variants.{Clear, Call, Unknown}
-use Rattle.charstring.specs.Notes.{noteAt, noted, Tells}
+use Rattle.charstring.specs.Notes.{codeOf, noteAt, noted}
+use Rattle.charstring.specs.Telling.{codeWords, storeAt}
 
 -- ---- the calls that are open, one string further out
 
@@ -37,34 +38,32 @@ unrefused newer back n = refl
 unrefused newer ended n = refl
 unrefused newer (stopped k) n = absurd (n k refl)
 
+-- and no more than there are
+pub open-few : (newer : List Entering) (h : How) → length (openBy newer h) ≤ length newer
+unfolding openBy
+open-few newer back = zero-le
+open-few newer ended = zero-le
+open-few newer (stopped k) = le-of-eq (length-reverse newer)
+
 -- a call around others is the first
 pub around-others : (newer : List Entering) (c : Entering) (k : ℕ) → openBy (newer ++ (c ∷ [])) (stopped k) ≡ c ∷ openBy newer (stopped k)
 unfolding openBy
 around-others newer c k = reverseAux-append newer (c ∷ []) []
 
--- ---- a note, as the code stores it
+-- what is put back behind the operands stands there
+pub behind-put : (a : ℕ) (xs ys : List ℕ) → a ≤ length xs → drop a (putMid a (length xs - a) xs ys) ≡ ys
+behind-put a xs ys h =
+    let rest = postOf a (length xs - a) xs in
+    ap (λ (n : ℕ). drop n (take a xs ++ (ys ++ rest))) (sym (length-take-le a xs h)) ∙ drop-append-seam (take a xs) (ys ++ rest)
+    ∙ ap (λ (l : List ℕ). ys ++ l) (post-is a (length xs) xs h ∙ drop-of-length-le xs (le-refl (length xs))) ∙ append-nil ys
 
-pub note-inside : (words : List ℕ) (around entry at a : ℕ) (w : Which) → a ≡ listWord w → 3 * around + 2 < length words
-    → set (set (set words (3 * around) a) (3 * around + 1) entry) (3 * around + 2) at ≡ noteAt words around w entry at
-note-inside words around entry at a w e h =
-    ap (λ (n : ℕ). set (set (set words (3 * around) n) (3 * around + 1) entry) (3 * around + 2) at) e
-    ∙ ap (λ (n : ℕ). set (set (set words (3 * around) (listWord w)) n entry) (3 * around + 2) at)
-    (let q : 3 * around + 1 ≡ suc (3 * around) = omega arith in q)
-    ∙ ap (λ (n : ℕ). set (set (set words (3 * around) (listWord w)) (suc (3 * around)) entry) n at)
-    (let q : 3 * around + 2 ≡ suc (suc (3 * around)) = omega arith in q)
-    ∙ ap (λ (b : Bool). cond b (sets words (3 * around) (listWord w ∷ entry ∷ at ∷ [])) words) (sym (lt-ltb _ _ h))
-
-pub note-outside : (words : List ℕ) (around entry at : ℕ) (w : Which) → length words ≤ 3 * around + 2 → words ≡ noteAt words around w entry at
-note-outside words around entry at w h =
-    ap (λ (b : Bool). cond b (sets words (3 * around) (listWord w ∷ entry ∷ at ∷ [])) words) (sym (le-ltb _ _ h))
-
--- ---- notes, and the words that are left
+-- ---- notes that all fit
 
 abbrev three : Entering → List ℕ
-three c = listWord (c .list) ∷ c .entry ∷ c .at ∷ []
+three c = codeOf (c .list) ∷ c .entry ∷ c .at ∷ []
 
 noted-length : (words : List ℕ) (around : ℕ) (calls : List Entering) → length (noted words around calls) ≡ length words
-unfolding noted
+unfolding noted storeAt
 noted-length words around [] = refl
 noted-length words around (c ∷ calls) =
     let n = noted words (around + 1) calls in by-room n (ltb (3 * around + 2) (length n)) ∙ noted-length words (around + 1) calls
@@ -73,91 +72,52 @@ noted-length words around (c ∷ calls) =
     by-room n true = length-sets n (3 * around) (three c)
     by-room n false = refl
 
--- no call fits where fewer than three words are left
-noted-none : (words : List ℕ) (around : ℕ) (calls : List Entering) → length words ≤ 3 * around + 2 → noted words around calls ≡ words
-unfolding noted
-noted-none words around [] h = refl
-noted-none words around (c ∷ calls) h =
-    ap (λ (n : List ℕ). noteAt n around (c .list) (c .entry) (c .at)) (noted-none words (around + 1) calls (omega arith))
-    ∙ ap (λ (b : Bool). cond b (sets words (3 * around) (three c)) words) (le-ltb (3 * around + 2) (length words) h)
+-- those before the first call and behind the last one stay
+noted-between : (words : List ℕ) (around : ℕ) (calls : List Entering) → 3 * (around + length calls) ≤ length words
+    → noted words around calls ≡ take (3 * around) words ++ (codeWords calls ++ drop (3 * (around + length calls)) words)
+unfolding noted codeWords storeAt
+noted-between words around [] h =
+    sym (ap (λ (n : ℕ). take (3 * around) words ++ drop n words) (let e : 3 * (around + 0) ≡ 3 * around = omega arith in e)
+    ∙ take-append-drop (3 * around) words)
+noted-between words around (c ∷ calls) h =
+    let i = 3 * around in
+    let inner = noted words (around + 1) calls in
+    let rest = codeWords calls ++ drop (3 * (around + length (c ∷ calls))) words in
+    let size = noted-length words (around + 1) calls in
+    let between : inner ≡ take (i + 3) words ++ rest =
+    noted-between words (around + 1) calls (omega arith)
+    ∙ ap (λ (n : ℕ). take n words ++ (codeWords calls ++ drop (3 * (around + 1 + length calls)) words))
+    (let q : 3 * (around + 1) ≡ i + 3 = omega arith in q)
+    ∙ ap (λ (n : ℕ). take (i + 3) words ++ (codeWords calls ++ drop n words))
+    (let q : 3 * (around + 1 + length calls) ≡ 3 * (around + length (c ∷ calls)) = omega arith in q) in
+    let head : length (take (i + 3) words) ≡ i + 3 = length-take-le (i + 3) words (omega arith) in
+    ap (λ (b : Bool). cond b (sets inner i (three c)) inner) (lt-ltb (i + 2) (length inner) (omega arith))
+    ∙ sets-eq (three c) inner i (omega arith)
+    ∙ ap (λ (l : List ℕ). take i l ++ three c ++ drop (i + 3) l) between
+    ∙ ap (λ (l : List ℕ). l ++ three c ++ drop (i + 3) (take (i + 3) words ++ rest))
+    (take-append-le i (take (i + 3) words) rest (omega arith) ∙ take-take i (i + 3) words (omega arith))
+    ∙ ap (λ (l : List ℕ). take i words ++ three c ++ l)
+    (ap (λ (n : ℕ). drop n (take (i + 3) words ++ rest)) (sym head) ∙ drop-append-seam (take (i + 3) words) rest)
+    ∙ append-assoc (take i words) (three c) rest
 
-few-left : (lent : List ℕ) (calls : List Entering) → length lent ≤ 2 → wordsLeft lent calls ≡ lent
-unfolding wordsLeft callWords
-few-left lent calls h =
-    ap (λ (n : ℕ). callWords (take n calls) ++ drop (length (callWords (take n calls))) lent) (let e : length lent / 3 ≡ 0 = omega arith in e)
+pub drop-zeros : (n m : ℕ) → drop {A = ℕ} n (replicate m 0) ≡ replicate (m - n) 0
+drop-zeros zero m = ap (λ (k : ℕ). replicate k 0) (let e : m ≡ m - 0 = omega arith in e)
+drop-zeros (suc n) zero = ap (λ (k : ℕ). replicate k 0) (let e : 0 ≡ 0 - suc n = omega arith in e)
+drop-zeros (suc n) (suc m) = drop-zeros n m ∙ ap (λ (k : ℕ). replicate k 0) (let e : m - n ≡ suc m - suc n = omega arith in e)
 
-more-left : (a b d : ℕ) (rest : List ℕ) (c : Entering) (calls : List Entering)
-    → wordsLeft (a ∷ b ∷ d ∷ rest) (c ∷ calls) ≡ three c ++ wordsLeft rest calls
-unfolding wordsLeft callWords
-more-left a b d rest c calls =
-    ap (λ (n : ℕ). callWords (take n (c ∷ calls)) ++ drop (length (callWords (take n (c ∷ calls)))) (a ∷ b ∷ d ∷ rest))
-    (let e : length (a ∷ b ∷ d ∷ rest) / 3 ≡ suc (length rest / 3) = omega arith in e)
-
--- with room for one more
-one-more : (lent : List ℕ) (c : Entering) (calls : List Entering) → 3 ≤ length lent
-    → wordsLeft lent (c ∷ calls) ≡ three c ++ wordsLeft (drop 3 lent) calls
-one-more [] c calls h = absurd (omega arith)
-one-more (a ∷ []) c calls h = absurd (omega arith)
-one-more (a ∷ b ∷ []) c calls h = absurd (omega arith)
-one-more (a ∷ b ∷ d ∷ rest) c calls h = more-left a b d rest c calls
-
-pub no-calls : (lent : List ℕ) → wordsLeft lent [] ≡ lent
-unfolding wordsLeft callWords
-no-calls lent = nothing-taken (length lent / 3)
-  where
-    nothing-taken : (n : ℕ) → callWords (take n []) ++ drop (length (callWords (take n []))) lent ≡ lent
-    nothing-taken zero = refl
-    nothing-taken (suc n) = refl
-
--- the words before the first call stay
-noted-behind : (words : List ℕ) (around : ℕ) (calls : List Entering) → 3 * around ≤ length words
-    → noted words around calls ≡ take (3 * around) words ++ wordsLeft (drop (3 * around) words) calls
-unfolding noted
-noted-behind words around [] h =
-    sym (ap (λ (l : List ℕ). take (3 * around) words ++ l) (no-calls (drop (3 * around) words)) ∙ take-append-drop (3 * around) words)
-noted-behind words around (c ∷ calls) h = by-room (λ k. noted-behind words (around + 1) calls k) (ltb (3 * around + 2) (length words)) refl
-  where
-    by-room : (3 * (around + 1) ≤ length words
-        → noted words (around + 1) calls ≡ take (3 * (around + 1)) words ++ wordsLeft (drop (3 * (around + 1)) words) calls)
-        → (b : Bool) → ltb (3 * around + 2) (length words) ≡ b
-        → noteAt (noted words (around + 1) calls) around (c .list) (c .entry) (c .at)
-        ≡ take (3 * around) words ++ wordsLeft (drop (3 * around) words) (c ∷ calls)
-    by-room deeper false e =
-        let few : length words ≤ 3 * around + 2 = ltb-false (3 * around + 2) (length words) e in
-        noted-none words around (c ∷ calls) few
-        ∙ sym (ap (λ (l : List ℕ). take (3 * around) words ++ l)
-        (few-left (drop (3 * around) words) (c ∷ calls) (omega (arith, length-drop (3 * around) words)))
-        ∙ take-append-drop (3 * around) words)
-    by-room deeper true e =
-        let room : 3 * around + 2 < length words = ltb-true (3 * around + 2) (length words) e in
-        let size = noted-length words (around + 1) calls in
-        let i = 3 * around in
-        let inner = noted words (around + 1) calls in
-        let rest = wordsLeft (drop (i + 3) words) calls in
-        let behind : inner ≡ take (i + 3) words ++ rest =
-        deeper (omega arith)
-        ∙ ap (λ (n : ℕ). take n words ++ wordsLeft (drop n words) calls) (let q : 3 * (around + 1) ≡ i + 3 = omega arith in q) in
-        let head : length (take (i + 3) words) ≡ i + 3 = length-take-le (i + 3) words (omega arith) in
-        ap (λ (b : Bool). cond b (sets inner i (three c)) inner) (lt-ltb (i + 2) (length inner) (omega arith))
-        ∙ sets-eq (three c) inner i (omega arith)
-        ∙ ap (λ (l : List ℕ). take i l ++ three c ++ drop (i + 3) l) behind
-        ∙ ap (λ (l : List ℕ). l ++ three c ++ drop (i + 3) (take (i + 3) words ++ rest))
-        (take-append-le i (take (i + 3) words) rest (omega arith) ∙ take-take i (i + 3) words (omega arith))
-        ∙ ap (λ (l : List ℕ). take i words ++ three c ++ l)
-        (ap (λ (n : ℕ). drop n (take (i + 3) words ++ rest)) (sym head) ∙ drop-append-seam (take (i + 3) words) rest)
-        ∙ ap (λ (l : List ℕ). take i words ++ three c ++ wordsLeft l calls) (sym (drop-drop 3 i words))
-        ∙ append-assoc (take i words) (three c) (wordsLeft (drop 3 (drop i words)) calls)
-        ∙ ap (λ (l : List ℕ). take i words ++ l) (sym (one-more (drop i words) c calls (omega (arith, length-drop i words))))
-
--- all calls that are open
-pub noted-all : (words : List ℕ) (calls : List Entering) → noted words 0 calls ≡ wordsLeft words calls
-noted-all words calls = noted-behind words 0 calls (omega arith)
+-- all open calls on zeros: their words, and zeros behind them
+pub noted-zeros : (m : ℕ) (calls : List Entering) → 3 * length calls ≤ m
+    → noted (replicate m 0) 0 calls ≡ codeWords calls ++ replicate (m - 3 * length calls) 0
+noted-zeros m calls h =
+    noted-between (replicate m 0) 0 calls (let e : length (replicate {A = ℕ} m 0) ≡ m = length-replicate m 0 in omega arith)
+    ∙ ap (λ (l : List ℕ). codeWords calls ++ l)
+    (drop-zeros (3 * (0 + length calls)) m
+    ∙ ap (λ (n : ℕ). replicate n 0) (let e : m - 3 * (0 + length calls) ≡ m - 3 * length calls = omega arith in e))
 
 -- a string in which no call is open notes nothing
-pub nothing-noted : (words : List ℕ) (around : ℕ) (newer : List Entering) (h : How) → length newer ≡ 0 → noted words around (openBy newer h) ≡ words
+pub nothing-noted : (words : List ℕ) (around : ℕ) (h : How) → noted words around (openBy [] h) ≡ words
 unfolding noted
-nothing-noted words around [] h e = ap (noted words around) (none-open h)
-nothing-noted words around (c ∷ newer) h e = absurd (omega arith)
+nothing-noted words around h = ap (noted words around) (none-open h)
 
 -- nor does one that is not refused
 pub unless-refused : (words : List ℕ) (around : ℕ) (newer : List Entering) (h : How) → ((k : ℕ) → h ≡ stopped k → ⊥)
@@ -171,14 +131,6 @@ pub noted-around : (words : List ℕ) (around : ℕ) (newer : List Entering) (c 
     ≡ noted words around (openBy (newer ++ (c ∷ [])) (stopped k))
 unfolding noted
 noted-around words around newer c k = ap (noted words around) (sym (around-others newer c k))
-
--- what is told of a run, from its verdict and its calls
-pub explained-so : (rules : Rules) (r : Run) (lent : List ℕ) (a : Answer Flattening) (calls : ℕ) (words : List ℕ) → a ≡ verdict rules r
-    → Tells r lent calls words → record { answer = a; calls = calls; words = words } ≡ inWords lent (ofRun rules r)
-explained-so rules r lent a calls words e t =
-    ap (λ (x : Answer Flattening). record { answer = x; calls = calls; words = words }) e
-    ∙ ap (λ (n : ℕ). record { answer = verdict rules r; calls = n; words = words }) (t .count-is)
-    ∙ ap (λ (l : List ℕ). record { answer = verdict rules r; calls = length (openCalls r); words = l }) (t .words-are)
 
 -- ---- where a call's operator stands
 

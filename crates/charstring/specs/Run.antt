@@ -234,19 +234,26 @@ pub record Done (rules : Rules) (globals : ℕ) (stack₁ out₁ marks₁ : List
   pub marked : Says globals marks₁ (x .state .shown)
   pub on : x .how ≡ back → Repr rules stack₁ out₁ (r .st) (x .state)
 
--- how deep a string ended that began with so many levels, and with so many left: the calls that are open in it, the innermost first, before those
--- that were open at its start
-pub record Opened (levels left : ℕ) (start : Now) (x : Run) : Type 0 where
+-- the calls that are open where a string ends, in it, the innermost first, and then those that were open at its start
+pub record Opened (levels : ℕ) (start : Now) (x : Run) : Type 0 where
   pub newer : List Entering
   pub open-is : x .state .within ≡ newer ++ start .within
-  pub deep : length newer + left ≡ levels
+  pub few : length newer ≤ levels
   pub all-closed : x .how ≡ back → newer ≡ []
 
 -- what a run of the code leaves of a string
 abbrev pub Finishes : Setup → List ℕ → List ℕ → List ℕ → Ran → Type 0
-Finishes u stack₁ out₁ marks₁ r = Done (u .rules) (u .globals) stack₁ out₁ marks₁ r (whole u) × Opened (u .levels) (r .levels) (u .start) (whole u)
+Finishes u stack₁ out₁ marks₁ r = Done (u .rules) (u .globals) stack₁ out₁ marks₁ r (whole u) × Opened (u .levels) (u .start) (whole u)
 
--- the words as it leaves them, where so many calls are around the string
+-- where no call is open in it
+abbrev pub EndsIn : Setup → List ℕ → List ℕ → List ℕ → Ran → Type 0
+EndsIn u stack₁ out₁ marks₁ r = Done (u .rules) (u .globals) stack₁ out₁ marks₁ r (whole u) × (whole u .state .within ≡ u .start .within)
+
+-- what stands on the stack behind the operands, as the rules limit them
+abbrev pub behind : Limits → List ℕ → List ℕ
+behind by stack = drop (by .rules .operands) stack
+
+-- there the run of a string leaves notes, where so many calls are around it
 abbrev pub notes : ℕ → List ℕ → Setup → List Entering → List ℕ
 notes around words u newer = noted words around (openBy newer (whole u .how))
 
@@ -285,7 +292,7 @@ module _ (cs : List ℕ) (by : Limits) where
 
   -- the string ended, or a call stands at some place
   abbrev pub Reached : Ground → ℕ → List ℕ → List ℕ → State → Stop → Type 0
-  Reached g from stack out st (Finished how) = Finishes (upon g) stack out (g .marks) (record { how = how; st = st; levels = g .levels })
+  Reached g from stack out st (Finished how) = EndsIn (upon g) stack out (g .marks) (record { how = how; st = st })
   Reached g from stack out st (Calling next w) =
       (i : ℕ) × (from ≤ i) × Here (upon g) stack out st i × CallsAt (meant (by .rules)) cs i (by .budget) st next w
 
@@ -327,9 +334,9 @@ abbrev pub around : List ℕ → List ℕ → List ℕ → Limits → ℕ → No
 around cs globals locals by levels t marks = upon cs by (grounded globals locals by levels t marks)
 
 -- whatever state of the reading the state and the marks stand for, the run is the reading's
-unfoldable pub RunsTo : List ℕ → List ℕ → List ℕ → Limits → State → List ℕ → List ℕ → List ℕ → List ℕ
-    → ℕ → Ran → List ℕ → List ℕ → List ℕ → List ℕ → Type 0
-RunsTo cs globals locals by s stack out marks words levels r stack₁ out₁ marks₁ words₁ =
+unfoldable pub RunsTo : List ℕ → List ℕ → List ℕ → Limits → State → List ℕ → List ℕ → List ℕ
+    → ℕ → Ran → List ℕ → List ℕ → List ℕ → Type 0
+RunsTo cs globals locals by s stack out marks levels r stack₁ out₁ marks₁ =
     (t : Now) → Repr (meant (by .rules)) stack out s t → Says (by .globals) marks (t .shown)
     → let u = around cs globals locals by levels t marks in
-    (e : Finishes u stack₁ out₁ marks₁ r) × (words₁ ≡ notes (by .rules .levels - levels) words u (e .1 .newer))
+    (e : Finishes u stack₁ out₁ marks₁ r) × (behind by stack₁ ≡ notes (by .rules .levels - levels) (behind by stack) u (e .1 .newer))

@@ -2,11 +2,11 @@
 use mathlib.Core.Path.{_≡_, refl, sym, ap, subst, _∙_}
 use mathlib.Core.Bool.{Bool, true, false, cond}
 use mathlib.Core.List.{List, _++_, append-nil}
-use Prim.Native.Nat.{ℕ, _-_, _≤_, _<_, zero-le}
+use Prim.Native.Nat.{ℕ, _-_, _*_, _≤_, _<_, zero-le}
 use native.Mathlib.Nat.{le-refl, lt-of-le-of-lt}
 use native.Mathlib.Omega.{arith}
 use lib.Dec.{leb, lit≤}
-use lib.ListN.{length, take, drop, length-reverse}
+use lib.ListN.{length, take, drop, replicate, length-drop}
 use lib.Seq.{length-take-le, take-all}
 use Rattle.number.specs.Answer.{Values, Answer, accepted, refused, alone, atToken, needingAt, leaving, Ready, into}
 use Rattle.number.specs.AnswerLaws.{refused-accepted, accepted-same, mapped-refused, into-fits, into-short}
@@ -18,7 +18,7 @@ use Rattle.reading.specs.Valid.{none}
 use Rattle.reading.specs.Flat.{flat}
 use Rattle.reading.specs.Answers.{Flattening, flatOf, flatReady, readyBy, judged, toldIn, verdict, outcome, numberOf, comesWith, stopNumber, stopValues}
 use Rattle.reading.specs.Entered.{enteredBy}
-use Rattle.reading.specs.Explained.{openBy, openCalls, wordsLeft}
+use Rattle.reading.specs.Explained.{openBy, openCalls, ofRun, Explaining, inWords}
 use Rattle.reading.specs.AnswerLaws.{AcceptedBy, came-to-end, Judged, takes, turns-down, judged-so, judged-accepted, accepted-tokens}
 use Rattle.reading.specs.declared.Rules.{Rules as CodeRules}
 use Rattle.reading.specs.declared.Profile.{Profile}
@@ -31,8 +31,9 @@ use Rattle.charstring.specs.Words.{stackOf, heldBy}
 use Rattle.charstring.specs.WordsLaws.{begins-none, begins-take}
 use Rattle.charstring.specs.Marks.{marksOf, Says, Clear, runMarks}
 use Rattle.charstring.specs.MarksLaws.{says-none}
-use Rattle.charstring.specs.Notes.{noted, Tells}
-use Rattle.charstring.specs.NotesLaws.{unrefused, noted-all}
+use Rattle.charstring.specs.Notes.{noted, Notes}
+use Rattle.charstring.specs.NotesLaws.{open-few, drop-zeros, noted-zeros}
+use Rattle.charstring.specs.Telling.{codeWords, ToldOf}
 use Rattle.charstring.specs.States.{begun}
 use Rattle.charstring.specs.Run.{Begins, tailOf, Repr, howOf, Setup, Done, Finishes, notes, stopAs, Roomy, countOf, Setting, Sound, around, RunsTo}
 use Rattle.charstring.specs.declared.state.State.{State}
@@ -74,57 +75,44 @@ module _ (rules : CodeRules) (stack out marks : List ℕ) (clear : Clear marks) 
       subst (λ (l : Limits). Setting globals locals l stack × (Sound l stack out marks s × (rules .levels ≤ l .rules .levels))) (sym limits)
       (record { roomy = h; global-count = refl; local-count = refl }, (sound, le-refl (rules .levels)))
 
-  module _ (cs words : List ℕ) (r : Ran) (stack₁ out₁ marks₁ words₁ : List ℕ)
-      (runs : RunsTo cs globals locals by s stack out marks words (rules .levels) r stack₁ out₁ marks₁ words₁) where
+  module _ (cs : List ℕ) (r : Ran) (stack₁ out₁ marks₁ : List ℕ)
+      (runs : RunsTo cs globals locals by s stack out marks (rules .levels) r stack₁ out₁ marks₁) where
     abbrev at-first : Setup
     at-first = around cs globals locals (limitsOf rules budget globals locals) (rules .levels) start marks
-
-    ran : (e : Finishes at-first stack₁ out₁ marks₁ r) × (words₁ ≡ notes (rules .levels - rules .levels) words at-first (e .1 .newer))
-    unfolding RunsTo
-    ran =
-        subst (λ (l : Limits). RunsTo cs globals locals l s stack out marks words (rules .levels) r stack₁ out₁ marks₁ words₁) limits runs start
-        begun-here (says-none _ marks clear)
-
-    -- the run of the code is the reading's
-    pub done : Done (meant rules) (countOf rules globals) stack₁ out₁ marks₁ r (original (meant rules) cs globals locals budget)
-    unfolding reading
-    done = ran .0 .0
 
     abbrev the-run : Run
     the-run = original (meant rules) cs globals locals budget
 
+    abbrev behind-operands : List ℕ → List ℕ
+    behind-operands = drop (rules .operands)
+
+    ran : (e : Finishes at-first stack₁ out₁ marks₁ r)
+        × (behind-operands stack₁ ≡ notes (rules .levels - rules .levels) (behind-operands stack) at-first (e .1 .newer))
+    unfolding RunsTo
+    ran =
+        subst (λ (l : Limits). RunsTo cs globals locals l s stack out marks (rules .levels) r stack₁ out₁ marks₁) limits runs start
+        begun-here (says-none _ marks clear)
+
+    -- the run of the code is the reading's
+    pub done : Done (meant rules) (countOf rules globals) stack₁ out₁ marks₁ r the-run
+    unfolding reading
+    done = ran .0 .0
+
     -- the calls open where it ended are those that it notes
-    all-open : openCalls the-run ≡ openBy (ran .0 .1 .newer) (the-run .how)
+    pub notes-of : Notes rules the-run stack stack₁
     unfolding reading
-    all-open = ap (λ (l : List Entering). openBy l (the-run .how)) (ran .0 .1 .open-is ∙ append-nil (ran .0 .1 .newer))
-
-    words-so : words₁ ≡ wordsLeft words (openCalls the-run)
-    unfolding reading
-    words-so =
-        ran .1 ∙ ap (λ (n : ℕ). noted words n (openBy (ran .0 .1 .newer) (the-run .how))) (let e : rules .levels - rules .levels ≡ 0 = omega arith in e)
-        ∙ noted-all words _ ∙ ap (wordsLeft words) (sym all-open)
-
-    pub tells-none : ((k : ℕ) → howOf (r .how) ≡ stopped k → ⊥) → Tells the-run words 0 words₁
-    tells-none n =
-        let none = unrefused (the-run .state .within) (the-run .how) (λ k z. n k (done .how ∙ z)) in
-        record { count-is = ap length (sym none); words-are = words-so }
-
-    pub tells-open : (k : Refusal) → r .how ≡ Refused k → (calls : ℕ) → calls ≡ rules .levels - r .levels → Tells the-run words calls words₁
-    unfolding openBy reading
-    tells-open k e calls q =
+    notes-of =
+        let newer = ran .0 .1 .newer in
+        let all : openCalls the-run ≡ openBy newer (the-run .how) =
+        ap (λ (l : List Entering). openBy l (the-run .how)) (ran .0 .1 .open-is ∙ append-nil newer) in
         record {
-          count-is =
-              let d = ran .0 .1 .deep in
-              let same : length (openCalls the-run) ≡ length (ran .0 .1 .newer) =
-              ap length all-open ∙ ap (λ (h : How). length (openBy (ran .0 .1 .newer) h)) (sym (done .how) ∙ ap howOf e)
-              ∙ length-reverse (ran .0 .1 .newer) in
-              omega arith;
-          words-are = words-so;
+          notes-are =
+              ran .1
+              ∙ ap (λ (n : ℕ). noted (behind-operands stack) n (openBy newer (the-run .how)))
+              (let e : rules .levels - rules .levels ≡ 0 = omega arith in e)
+              ∙ ap (noted (behind-operands stack) 0) (sym all);
+          few = let q = ran .0 .1 .few in let e = ap length all in omega (arith, open-few newer (the-run .how));
         }
-
-    -- it was left with no more levels than it began with
-    pub levels-left : r .levels ≤ rules .levels
-    levels-left = let d = ran .0 .1 .deep in omega arith
 
 -- its marks are those of the reading
 pub run-marked : (rules : CodeRules) (cs globals locals : List ℕ) (budget : ℕ) (stack₁ out₁ marks marks₁ : List ℕ) (r : Ran)
@@ -145,14 +133,42 @@ few-operands : (p : Profile) → rulesOf p .operands ≤ 48
 few-operands Plain = lit≤ tt
 few-operands Strict = lit≤ tt
 
--- a stack of 48 is enough for them
-pub roomy-profile : (p : Profile) (rules : CodeRules) → meant rules ≡ rulesOf p → (stack : List ℕ) → length stack ≡ 48 → Roomy rules stack
-roomy-profile p rules is stack full =
-    record {
-      few-hints = let k = few-hints p in let e : rules .hints ≡ rulesOf p .hints = ap (λ (r : Rules). r .hints) is in omega arith;
-      few-words = omega arith;
-      operands-fit = let k = few-operands p in let e : rules .operands ≡ rulesOf p .operands = ap (λ (r : Rules). r .operands) is in omega arith;
-    }
+few-levels : (p : Profile) → rulesOf p .levels ≤ 63
+few-levels Plain = lit≤ tt
+few-levels Strict = lit≤ tt
+
+module _ (p : Profile) (rules : CodeRules) (is : meant rules ≡ rulesOf p) where
+  pub operands-few : rules .operands ≤ 48
+  operands-few = let k = few-operands p in let e : rules .operands ≡ rulesOf p .operands = ap (λ (r : Rules). r .operands) is in omega arith
+
+  -- a stack of 48 is enough for them
+  pub roomy-profile : (stack : List ℕ) → 48 ≤ length stack → length stack ≤ 65535 → Roomy rules stack
+  roomy-profile stack enough few =
+      record {
+        few-hints = let k = few-hints p in let e : rules .hints ≡ rulesOf p .hints = ap (λ (r : Rules). r .hints) is in omega arith;
+        few-words = few;
+        operands-fit = let k = operands-few in omega arith;
+      }
+
+  -- and with 189 words behind them for all notes: what is told of these
+  pub told-calls : (r : Run) (stack₁ lent words : List ℕ) (n : ℕ) (a : Answer Flattening) → length stack₁ ≡ 237
+      → Notes rules r (replicate 237 0) stack₁ → ToldOf (take (237 - rules .operands) (drop (rules .operands) stack₁)) lent n words
+      → a ≡ verdict (meant rules) r → record { answer = a; calls = n; words = words } ≡ inWords lent (ofRun (meant rules) r)
+  unfolding ToldOf
+  told-calls r stack₁ lent words n a long notes told e =
+      let ops = rules .operands in
+      let few = operands-few in
+      let levels = few-levels p in
+      let same : rules .levels ≡ rulesOf p .levels = ap (λ (x : Rules). x .levels) is in
+      let calls = openCalls r in
+      let as-noted : take (237 - ops) (drop ops stack₁) ≡ codeWords calls ++ replicate (237 - ops - 3 * length calls) 0 =
+      take-all (237 - ops) (drop ops stack₁) (omega (arith, length-drop ops stack₁)) ∙ notes .notes-are
+      ∙ ap (λ (l : List ℕ). noted l 0 calls) (drop-zeros ops 237)
+      ∙ noted-zeros (237 - ops) calls (let q = notes .few in omega arith) in
+      let t = told calls (237 - ops - 3 * length calls) as-noted in
+      ap (λ (x : Answer Flattening). record { answer = x; calls = n; words = words }) e
+      ∙ ap (λ (m : ℕ). record { answer = verdict (meant rules) r; calls = m; words = words }) (t .0)
+      ∙ ap (λ (l : List ℕ). record { answer = verdict (meant rules) r; calls = length calls; words = l }) (t .1)
 
 -- ---- the verdict
 

@@ -19,7 +19,7 @@ ghost use Rattle.reading.specs.Lists.{chosen};
 ghost use Rattle.charstring.specs.Run.{chosenCount, Setting, Sound, RunsTo};
 
 // Runs a charstring, and the entries that it calls, from a state, and marks the entries. Where the run is
-// refused, each call that is open is noted on the way out of it.
+// refused, each call that is open is noted on the way out of it, behind the operands of the stack.
 pub(crate) fn run<'a>(
     cs: &'a [u8],
     globals: &'a [u8],
@@ -29,15 +29,13 @@ pub(crate) fn run<'a>(
     stack: &mut [u64],
     out: &mut [u8],
     marks: &mut [u8],
-    words: &mut [u64],
     levels: u32,
 ) -> Ran
     requires { ⌜ Setting (now globals) (now locals) by (now stack) ⌝ }
     requires { ⌜ Sound by (now stack) (now out) (now marks) s ⌝ }
     requires { ⌜ levels ≤ by .rules .levels ⌝ }
     ensures { λ r. ⌜ RunsTo (now (cs .entry)) (now (globals .entry)) (now (locals .entry)) by s
-        (now (stack .entry)) (now (out .entry)) (now (marks .entry)) (now (words .entry)) levels r
-        (now (stack .exit)) (now (out .exit)) (now (marks .exit)) (now (words .exit)) ⌝ }
+        (now (stack .entry)) (now (out .entry)) (now (marks .entry)) levels r (now (stack .exit)) (now (out .exit)) (now (marks .exit)) ⌝ }
 {
     let mut st = s;
     let mut i: usize = 0;
@@ -47,11 +45,7 @@ pub(crate) fn run<'a>(
         let stop = reached.stop;
         match stop {
             Stop::Done(how) => {
-                return Ran {
-                    how,
-                    st: here,
-                    levels,
-                };
+                return Ran { how, st: here };
             }
             Stop::Call(next, which) => {
                 let top = here.count - 1;
@@ -70,7 +64,6 @@ pub(crate) fn run<'a>(
                         return Ran {
                             how: Ending::Refused(k),
                             st: here,
-                            levels,
                         };
                     }
                     Target::Enter(k, from, to) => {
@@ -86,7 +79,6 @@ pub(crate) fn run<'a>(
                             stack,
                             out,
                             marks,
-                            words,
                             levels - 1,
                         );
                         let how = r.how;
@@ -99,7 +91,7 @@ pub(crate) fn run<'a>(
                                 return r;
                             }
                             Ending::Refused(_) => {
-                                note(words, by.rules.levels - levels, which, k, next - 1);
+                                note(stack, by.rules, levels, which, k, next - 1);
                                 return r;
                             }
                         }

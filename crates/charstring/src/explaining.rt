@@ -1,5 +1,6 @@
 // Why a charstring is refused: the verdict on it, and the calls that were open at the refused token.
 use crate::flattening::draft_by;
+use crate::telling::tell_calls;
 use index::Formed;
 use index::check_list;
 use reading::Explained;
@@ -43,7 +44,8 @@ pub fn explain<'a>(
     explain_run(cs, globals, locals, profile, budget, words)
 }
 
-// The same without a look at the lists first. Nothing is stored or marked.
+// The same without a look at the lists first. The stack has room for the operands, and behind them for three words of each
+// call that may be open. Nothing else is stored.
 fn explain_run<'a>(
     cs: &'a [u8],
     globals: &'a [u8],
@@ -56,18 +58,21 @@ fn explain_run<'a>(
         ≡ inWords (now (words .entry)) (ofRun (rulesOf profile)
         (original (rulesOf profile) (now (cs .entry)) (now (globals .entry)) (now (locals .entry)) budget)) ⌝ }
 {
-    let mut stack = [0u64; 48];
+    let rules = rules_of(profile);
+    let operands = rules.operands;
+    let mut stack = [0u64; 237];
     let mut held = [0u8; 0];
     let mut unmarked = [0u8; 0];
-    draft_by(
+    let verdict = draft_by(
         cs,
         globals,
         locals,
-        rules_of(profile),
+        rules,
         budget,
         &mut stack,
         &mut held,
         &mut unmarked,
-        words,
-    )
+    );
+    let calls = tell_calls(&stack[operands..], words);
+    Explained { verdict, calls }
 }

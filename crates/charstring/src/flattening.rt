@@ -10,7 +10,6 @@ use index::IndexRead;
 use index::Width;
 use index::check_list;
 use index::read_index;
-use reading::Explained;
 use reading::Flattened;
 use reading::Profile;
 use reading::Refusal;
@@ -27,7 +26,7 @@ ghost use Rattle.reading.specs.Lists.{countIn};
 ghost use Rattle.reading.specs.Reading.{stopped, tokensBy, original};
 ghost use Rattle.reading.specs.Answers.{numberOf, flatOf, flattened, verdict, outcome, flattening};
 ghost use Rattle.charstring.specs.Marks.{Clear, runMarks};
-ghost use Rattle.charstring.specs.Notes.{Tells};
+ghost use Rattle.charstring.specs.Notes.{Notes};
 ghost use Rattle.charstring.specs.Run.{Begins, Roomy, stopAs, countOf};
 
 // Flattens a charstring with its two subroutine lists into the start of out. A refusal changes no
@@ -158,8 +157,7 @@ fn draft_marking<'a>(
         (length (now (marks .entry))) ⌝ }
 {
     let mut stack = [0u64; 48];
-    let mut unnoted = [0u64; 0];
-    let explained = draft_by(
+    draft_by(
         cs,
         globals,
         locals,
@@ -168,13 +166,10 @@ fn draft_marking<'a>(
         &mut stack,
         held,
         marks,
-        &mut unnoted,
-    );
-    explained.verdict
+    )
 }
 
-// The same by any rules, on a stack with room for their operands, and with the calls that were open where the run was
-// refused.
+// The same by any rules, on a stack with room for their operands. Where the run is refused, the open calls are noted behind them.
 pub(crate) fn draft_by<'a>(
     cs: &'a [u8],
     globals: &'a [u8],
@@ -184,18 +179,17 @@ pub(crate) fn draft_by<'a>(
     stack: &mut [u64],
     held: &mut [u8],
     marks: &mut [u8],
-    words: &mut [u64],
-) -> Explained
+) -> Flattened
     requires { ⌜ Roomy rules (now stack) ⌝ }
     requires { ⌜ Clear (now marks) ⌝ }
-    ensures { λ r. ⌜ flattened (r .verdict)
+    ensures { λ r. ⌜ flattened r
         ≡ verdict (meant rules) (original (meant rules) (now (cs .entry)) (now (globals .entry)) (now (locals .entry)) budget) ⌝ }
     ensures { λ r. ⌜ Begins (now (held .exit))
         (flatOf (original (meant rules) (now (cs .entry)) (now (globals .entry)) (now (locals .entry)) budget)) ⌝ }
     ensures { λ r. ⌜ now (marks .exit) ≡ runMarks (meant rules) (now (cs .entry)) (now (globals .entry)) (now (locals .entry)) budget
         (length (now (marks .entry))) ⌝ }
-    ensures { λ r. ⌜ Tells (original (meant rules) (now (cs .entry)) (now (globals .entry)) (now (locals .entry)) budget)
-        (now (words .entry)) (r .calls) (now (words .exit)) ⌝ }
+    ensures { λ r. ⌜ Notes rules (original (meant rules) (now (cs .entry)) (now (globals .entry)) (now (locals .entry)) budget)
+        (now (stack .entry)) (now (stack .exit)) ⌝ }
 {
     let by = limits_of(rules, budget, globals, locals);
     let r = run(
@@ -207,7 +201,6 @@ pub(crate) fn draft_by<'a>(
         stack,
         held,
         marks,
-        words,
         rules.levels,
     );
     let how = r.how;
@@ -216,24 +209,12 @@ pub(crate) fn draft_by<'a>(
     match how {
         Ending::Back => {
             if rules.finished {
-                return Explained {
-                    verdict: Flattened::Refused(Stopped::Alone(Refusal::NoEndchar)),
-                    calls: 0,
-                };
+                return Flattened::Refused(Stopped::Alone(Refusal::NoEndchar));
             }
-            Explained {
-                verdict: Flattened::Accepted(st.length, st.tokens, advance),
-                calls: 0,
-            }
+            Flattened::Accepted(st.length, st.tokens, advance)
         }
-        Ending::Ended => Explained {
-            verdict: Flattened::Accepted(st.length, st.tokens, advance),
-            calls: 0,
-        },
-        Ending::Refused(k) => Explained {
-            verdict: Flattened::Refused(stopped_by(k, st.tokens)),
-            calls: (rules.levels - r.levels) as usize,
-        },
+        Ending::Ended => Flattened::Accepted(st.length, st.tokens, advance),
+        Ending::Refused(k) => Flattened::Refused(stopped_by(k, st.tokens)),
     }
 }
 

@@ -13,6 +13,7 @@ mod state;
 mod store;
 mod stretch;
 mod subroutines;
+mod telling;
 mod token;
 
 pub use crate::explaining::explain;

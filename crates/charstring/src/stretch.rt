@@ -18,7 +18,7 @@ use crate::store::put_two;
 use reading::Refusal;
 use reading::Which;
 ghost use mathlib.Core.Path.{_≡_};
-ghost use Rattle.charstring.specs.Run.{Roomy, Standing, StretchesTo};
+ghost use Rattle.charstring.specs.Run.{Roomy, behind, Standing, StretchesTo};
 
 // How a string ended: back to the caller, everything by endchar, or refused.
 pub(crate) enum Ending {
@@ -30,8 +30,6 @@ pub(crate) enum Ending {
 pub(crate) struct Ran {
     pub how: Ending,
     pub st: State,
-    // How many levels of calls were left where it ended.
-    pub levels: u32,
 }
 
 // Where a stretch ends: with the string, or before a call, behind which the string goes on there.
@@ -57,6 +55,7 @@ pub(crate) fn stretch(
     requires { ⌜ Roomy (by .rules) (now stack) ⌝ }
     requires { ⌜ Standing (now cs) by (now stack) (now out) s from ⌝ }
     ensures { λ r. ⌜ StretchesTo (now (cs .entry)) by (now (stack .entry)) (now (out .entry)) s from r (now (stack .exit)) (now (out .exit)) ⌝ }
+    ensures { λ r. ⌜ behind by (now (stack .exit)) ≡ behind by (now (stack .entry)) ⌝ }
 {
     let mut st = s;
     let mut i = from;

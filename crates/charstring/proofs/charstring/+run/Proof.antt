@@ -8,9 +8,10 @@ use Rattle.number.specs.Number.{charstringRows}
 use Rattle.number.specs.Written.{spelling}
 use Rattle.number.specs.declared.Operand.{Operand}
 use Rattle.charstring.specs.Words.{unpackOf, Inside}
+use Rattle.charstring.specs.Run.{behind}
 use Rattle.charstring.specs.StretchLaws.{few-tokens}
 use Rattle.charstring.specs.LoopLaws.{Stands, Gives, begins, Turn, roomy-now, stands-on, arm-done, Before, before, Numbers, safe, Aims, arm-no}
-use Rattle.charstring.specs.LoopLaws.{Numbered, index-there, inside-sound, with-mark, Behind, behind, aims-at, names-at}
+use Rattle.charstring.specs.LoopLaws.{Numbered, index-there, inside-sound, with-mark, Behind, behind-run, aims-at, names-at}
 use Rattle.charstring.specs.declared.subroutines.Target.the-variants.{Enter}
 use borrow.Fn.Kinds.{In, Out}
 use borrow.Fn.PlainCycle.{Measures, is, falls, and}
@@ -29,22 +30,22 @@ use Rattle.charstring.proofs.subroutines.aim.Reads as aim-reads
 use Rattle.charstring.proofs.charstring.+run.{statement}
 use Rattle.charstring.proofs.charstring.+run.Tie.{close}
 
-abbrev μ-run : Measures 5 run-kinds.ps ℕ
-μ-run κs a = a .1 .1 .1 .1 .1 .1 .1 .1 .1 .0
+abbrev μ-run : Measures 4 run-kinds.ps ℕ
+μ-run κs a = a .1 .1 .1 .1 .1 .1 .1 .1 .0
 
-abbrev run-at : ℕ → In 5 run-kinds.ps
-run-at t = and 5 run-kinds.ps (is 5 run-kinds.ps μ-run t) run.Pre
+abbrev run-at : ℕ → In 4 run-kinds.ps
+run-at t = and 4 run-kinds.ps (is 4 run-kinds.ps μ-run t) run.Pre
 
-abbrev run-below : ℕ → In 5 run-kinds.ps
-run-below t = and 5 run-kinds.ps (falls 5 run-kinds.ps _<_ μ-run t) run.Pre
+abbrev run-below : ℕ → In 4 run-kinds.ps
+run-below t = and 4 run-kinds.ps (falls 4 run-kinds.ps _<_ μ-run t) run.Pre
 
 abbrev run-Inv-loop : run-lts.InvT-loop
-run-Inv-loop cs globals locals by stack₀ out₀ marks₀ words₀ levels st₀ i₀ stack out marks words st i =
+run-Inv-loop cs globals locals by stack₀ out₀ marks₀ levels st₀ i₀ stack out marks st i =
     (length stack ≡ length stack₀) × (length out ≡ length out₀) × (length marks ≡ length marks₀)
-    × Stands cs globals locals by levels stack₀ out₀ marks₀ words₀ st₀ stack out marks st i × (words ≡ words₀)
+    × Stands cs globals locals by levels stack₀ out₀ marks₀ st₀ stack out marks st i × (behind by stack ≡ behind by stack₀)
 
 abbrev run-μ-loop : run-lts.MeasureT-loop
-run-μ-loop cs globals locals by stack₀ out₀ marks₀ words₀ levels st₀ i₀ stack out marks words st i = length cs - i
+run-μ-loop cs globals locals by stack₀ out₀ marks₀ levels st₀ i₀ stack out marks st i = length cs - i
 
 abbrev callees : ℕ → run-lts.Claims
 callees t = (
@@ -71,14 +72,14 @@ callees t = (
 )
 
 -- a place, and what a need asks, at the callees' contracts, the invariant and the measure
-abbrev Of : (run-lts.Claims → In 5 run-kinds.ps → Out 5 run-kinds.ps run-kinds.r
+abbrev Of : (run-lts.Claims → In 4 run-kinds.ps → Out 4 run-kinds.ps run-kinds.r
     → run-lts.InvT-loop → run-lts.MeasureT-loop → Type 0) → ℕ → Type 0
 Of need t = need (callees t) (run-at t) run.Post run-Inv-loop run-μ-loop
 
 -- ---- where each place came from
 
 abbrev start-of : (t : ℕ) → Of run-lts.At-loop t → Of run-lts.Start t
-start-of t c = c .before .before .before .before .before .before .before .before
+start-of t c = c .before .before .before .before .before .before .before
 
 abbrev loop-of : (t : ℕ) → Of run-lts.After-stretch t → Of run-lts.At-loop t
 loop-of t c = c .before .before .before
@@ -96,22 +97,24 @@ abbrev target-of : (t : ℕ) → Of run-lts.After-size-of t → Of run-lts.After
 target-of t c = mark-of t c .before .before .before
 
 abbrev size-of : (t : ℕ) → Of run-lts.After-run t → Of run-lts.After-size-of t
-size-of t c = c .before .before .before .before .before .before
-
-abbrev run-of : (t : ℕ) → Of run-lts.After-slice-known13 t → Of run-lts.After-run t
-run-of t c = c .before .before .before .before .before .before .before .before .before .before .before .before .before .before .before
+size-of t c = c .before .before .before .before .before
 
 -- ---- what is known there
 
 -- where the loop is
 turn-at : (t : ℕ) (c : Of run-lts.At-loop t)
     → let args = start-of t c .args in
-    Turn (args .cs .now) (args .globals .now) (args .locals .now) (args .by) (args .levels) (args .stack .now) (args .out .now) (args .marks .now)
-    (args .words .now) (args .s)
+    Turn (args .cs .now) (args .globals .now) (args .locals .now) (args .by) (args .levels) (args .stack .now) (args .out .now) (args .marks .now) (args .s)
     (c .loop .stack) (c .loop .out) (c .loop .marks) (c .loop .st) (c .loop .i)
 turn-at t c =
     let start = start-of t c in
-    record { same-stack = c .loop .inv .0; setting = start .pre .1 .0; sound = start .pre .1 .1 .0; stands = c .loop .inv .3 }
+    record {
+      same-stack = c .loop .inv .0;
+      same-behind = c .loop .inv .4;
+      setting = start .pre .1 .0;
+      sound = start .pre .1 .1 .0;
+      stands = c .loop .inv .3;
+    }
 
 -- behind a stretch the stack and the room have their lengths
 same-stack : (t : ℕ) (c : Of run-lts.After-stretch t)
@@ -127,21 +130,20 @@ at-call : (t : ℕ) (c : Of run-lts.After-stop2 t)
     → let loop = loop-of t (stretch-of t c) in
     let args = start-of t loop .args in
     let stretch = stretch-of t c .stretch in
-    Before (args .cs .now) (args .globals .now) (args .locals .now) (args .by) (args .levels) (args .stack .now) (args .out .now) (args .marks .now)
-    (args .words .now) (args .s)
+    Before (args .cs .now) (args .globals .now) (args .locals .now) (args .by) (args .levels) (args .stack .now) (args .out .now) (args .marks .now) (args .s)
     (loop .loop .i) (stretch .result .st) (stretch .last .1 .1 .1 .1 .0) (stretch .last .1 .1 .1 .1 .1 .0) (loop .loop .marks)
     (c .stop2 .given .0 .0) (c .stop2 .given .0 .1 .0)
 at-call t c =
     let stretch = stretch-of t c .stretch in
-    before _ _ _ _ _ _ _ _ _ _ _ _ _ _ _ (turn-at t (loop-of t (stretch-of t c))) (stretch .result) _ _ (stretch .ensures) (stretch .kept .1 .1 .1 .1 .0) _ _
-    (c .stop2 .given .1)
+    before _ _ _ _ _ _ _ _ _ _ _ _ _ _ (turn-at t (loop-of t (stretch-of t c))) (stretch .result) _ _ (stretch .ensures .0) (stretch .ensures .1)
+    (stretch .kept .1 .1 .1 .1 .0) _ _ (c .stop2 .given .1)
 
-numbers : (t : ℕ) (c : Of run-lts.After-stop2 t) → Numbers _ _ _ _ _ _ _ _ _ _ _ _ _ _ _ _ _ (at-call t c)
-numbers t c = safe _ _ _ _ _ _ _ _ _ _ _ _ _ _ _ _ _ (at-call t c)
+numbers : (t : ℕ) (c : Of run-lts.After-stop2 t) → Numbers _ _ _ _ _ _ _ _ _ _ _ _ _ _ _ _ (at-call t c)
+numbers t c = safe _ _ _ _ _ _ _ _ _ _ _ _ _ _ _ _ (at-call t c)
 
 -- what was aimed at, and that it lies within the list
 aims : (t : ℕ) (c : Of run-lts.After-target2 t)
-    → Aims _ _ _ _ _ _ _ _ _ _ _ _ _ _ _ _ _ (at-call t (call-of t c))
+    → Aims _ _ _ _ _ _ _ _ _ _ _ _ _ _ _ _ (at-call t (call-of t c))
     (Enter (c .target2 .given .0 .0) (c .target2 .given .0 .1 .0) (c .target2 .given .0 .1 .1 .0))
 aims t c =
     let at-aim = c .before .before in
@@ -151,7 +153,7 @@ aims t c =
     (c .target2 .given .1) (at-aim .aim .ensures .0)
 
 numbered : (t : ℕ) (c : Of run-lts.After-target2 t)
-    → Numbered _ _ _ _ _ _ _ _ _ _ _ _ _ _ _ _ _ (at-call t (call-of t c))
+    → Numbered _ _ _ _ _ _ _ _ _ _ _ _ _ _ _ _ (at-call t (call-of t c))
     (Enter (c .target2 .given .0 .0) (c .target2 .given .0 .1 .0) (c .target2 .given .0 .1 .1 .0))
 numbered t c =
     let at-aim = c .before .before in
@@ -178,7 +180,7 @@ there : (t : ℕ) (c : Of run-lts.After-size-of t)
     let levels = start-of t (loop-of t at) .args .levels in
     (c .size-of .result ≤ at .stretch .result .st .length) × (0 < at .stretch .result .st .tail) × (levels ≡ 0 → ⊥)
 there t c =
-    let x = index-there _ _ _ _ _ _ _ _ _ _ _ _ _ _ _ _ _ (at-call t (call-of t (target-of t c))) _ _ _ (aims t (target-of t c)) (numbered t (target-of t c)) in
+    let x = index-there _ _ _ _ _ _ _ _ _ _ _ _ _ _ _ _ (at-call t (call-of t (target-of t c))) _ _ _ (aims t (target-of t c)) (numbered t (target-of t c)) in
     (subst (λ (m : ℕ). m ≤ stretch-of t (call-of t (target-of t c)) .stretch .result .st .length) (sym (sized t c)) (x .0), x .1, x .2)
 
 -- behind the run of an entry
@@ -193,7 +195,7 @@ module _ (t : ℕ) (c : Of run-lts.After-run t) where
   start = start-of t (loop-of t at-stretch)
 
   abbrev at-enter : Of run-lts.After-enter t
-  at-enter = c .before .before .before .before .before
+  at-enter = c .before .before .before .before
 
   still-stack : length (c .run .last .1 .1 .1 .1 .1 .0) ≡ length (start .args .stack .now)
   still-stack = c .run .kept .1 .1 .1 .1 .1 .0 ∙ same-stack t at-stretch
@@ -201,41 +203,38 @@ module _ (t : ℕ) (c : Of run-lts.After-run t) where
   still-marks : length (c .run .last .1 .1 .1 .1 .1 .1 .1 .0) ≡ length (start .args .marks .now)
   still-marks = c .run .kept .1 .1 .1 .1 .1 .1 .1 .0 ∙ mark-of t (size-of t c) .mark .kept .0 ∙ loop-of t at-stretch .loop .inv .2
 
-  kept-words : length (c .run .last .1 .1 .1 .1 .1 .1 .1 .1 .0) ≡ length (start .args .words .now)
-  kept-words = c .run .kept .1 .1 .1 .1 .1 .1 .1 .1 .0 ∙ ap length (loop-of t at-stretch .loop .inv .4)
-
   still-out : length (c .run .last .1 .1 .1 .1 .1 .1 .0) ≡ length (start .args .out .now)
   still-out = c .run .kept .1 .1 .1 .1 .1 .1 .0 ∙ same-out t at-stretch
 
   abbrev Came : Type 0
   Came =
-      Behind _ _ _ _ _ _ _ _ _ _ _ _ _ _ _ _ _ (at-call t (call-of t at-target)) _ _ _ (aims t at-target) (numbered t at-target) _ _
+      Behind _ _ _ _ _ _ _ _ _ _ _ _ _ _ _ _ (at-call t (call-of t at-target)) _ _ _ (aims t at-target) (numbered t at-target) _ _
       (sized t (size-of t c)) (at-enter .enter .ensures) _ (at-target .before .before .before .before .choose .ensures)
-      _ (mark-of t (size-of t c) .mark .ensures) _ (loop-of t at-stretch .loop .inv .4) (c .run .result) _ _ _ _ (c .run .ensures)
+      _ (mark-of t (size-of t c) .mark .ensures) (c .run .result) _ _ _ (c .run .ensures)
 
   came : Came
   came =
-      behind _ _ _ _ _ _ _ _ _ _ _ _ _ _ _ _ _ (at-call t (call-of t at-target)) _ _ _ (aims t at-target) (numbered t at-target) _ _
+      behind-run _ _ _ _ _ _ _ _ _ _ _ _ _ _ _ _ (at-call t (call-of t at-target)) _ _ _ (aims t at-target) (numbered t at-target) _ _
       (sized t (size-of t c)) (at-enter .enter .ensures) _ (at-target .before .before .before .before .choose .ensures)
-      _ (mark-of t (size-of t c) .mark .ensures) _ (loop-of t at-stretch .loop .inv .4) (c .run .result) _ _ _ _ (c .run .ensures)
+      _ (mark-of t (size-of t c) .mark .ensures) (c .run .result) _ _ _ (c .run .ensures)
 
 -- ---- the needs
 
 run-loop-holds : (t : ℕ) → Of run-lts.Need-loop-holds t
 run-loop-holds t c =
-    let args = c .before .before .before .before .before .before .before .args in
-    let third = c .before .before .before .before in (
+    let args = c .before .before .before .before .before .before .args in
+    let third = c .before .before .before in (
       refl,
       refl,
       refl,
       begins (args .cs .now) (args .globals .now) (args .locals .now) (args .by) (args .levels) (args .stack .now) (args .out .now) (args .marks .now)
-          (args .words .now) (args .s) (λ k. third .before .before .shared-slice-known .given k .fits)
-          (λ k. third .before .shared-slice-known2 .given k .fits) (λ k. third .shared-slice-known3 .given k .fits),
+          (args .s) (λ k. third .before .before .shared-slice-known .given k .fits) (λ k. third .before .shared-slice-known2 .given k .fits)
+          (λ k. third .shared-slice-known3 .given k .fits),
       refl,
     )
 
 run-stretch-requires : (t : ℕ) → Of run-lts.Need-stretch-requires t
-run-stretch-requires t c κs = let h = turn-at t (c .before .before) in (roomy-now _ _ _ _ _ _ _ _ _ _ _ _ _ _ _ h, stands-on _ _ _ _ _ _ _ _ _ _ _ _ _ _ _ h)
+run-stretch-requires t c κs = let h = turn-at t (c .before .before) in (roomy-now _ _ _ _ _ _ _ _ _ _ _ _ _ _ h, stands-on _ _ _ _ _ _ _ _ _ _ _ _ _ _ h)
 
 run-enum-known-stop : (t : ℕ) → Of run-lts.Need-enum-known-stop t
 run-enum-known-stop t c = search needs
@@ -249,14 +248,11 @@ run-same-length-2 t c = same-out t (c .before .before .before .before .before .b
 run-same-length-3 : (t : ℕ) → Of run-lts.Need-same-length-3 t
 run-same-length-3 t c = loop-of t (c .before .before .before .before .before .before .before .before) .loop .inv .2
 
-run-same-length-4 : (t : ℕ) → Of run-lts.Need-same-length-4 t
-run-same-length-4 t c = ap length (loop-of t (c .before .before .before .before .before .before .before .before) .loop .inv .4)
-
 run-returns : (t : ℕ) → Of run-lts.Need-returns t
 run-returns t c =
     let at = c .before .before .before .before .before .before .before .before in
-    arm-done _ _ _ _ _ _ _ _ _ _ _ _ _ _ _ (turn-at t (loop-of t at)) (at .stretch .result) _ _ (at .stretch .ensures) _ (c .before .stop .given .1)
-    _ (loop-of t at .loop .inv .4)
+    arm-done _ _ _ _ _ _ _ _ _ _ _ _ _ _ (turn-at t (loop-of t at)) (at .stretch .result) _ _ (at .stretch .ensures .0)
+    (at .stretch .ensures .1) _ (c .before .stop .given .1)
 
 run-enum-known-stop-2 : (t : ℕ) → Of run-lts.Need-enum-known-stop-2 t
 run-enum-known-stop-2 t c = search needs
@@ -285,17 +281,14 @@ run-aim-requires t c κs = tt
 run-enum-known-target : (t : ℕ) → Of run-lts.Need-enum-known-target t
 run-enum-known-target t c = search needs
 
+run-same-length-4 : (t : ℕ) → Of run-lts.Need-same-length-4 t
+run-same-length-4 t c = same-stack t (stretch-of t (c .before .before .before .before .before .before .before .before .before .before))
+
 run-same-length-5 : (t : ℕ) → Of run-lts.Need-same-length-5 t
-run-same-length-5 t c = same-stack t (stretch-of t (c .before .before .before .before .before .before .before .before .before .before))
+run-same-length-5 t c = same-out t (stretch-of t (c .before .before .before .before .before .before .before .before .before .before))
 
 run-same-length-6 : (t : ℕ) → Of run-lts.Need-same-length-6 t
-run-same-length-6 t c = same-out t (stretch-of t (c .before .before .before .before .before .before .before .before .before .before))
-
-run-same-length-7 : (t : ℕ) → Of run-lts.Need-same-length-7 t
-run-same-length-7 t c = loop-of t (stretch-of t (c .before .before .before .before .before .before .before .before .before .before)) .loop .inv .2
-
-run-same-length-8 : (t : ℕ) → Of run-lts.Need-same-length-8 t
-run-same-length-8 t c = ap length (loop-of t (stretch-of t (c .before .before .before .before .before .before .before .before .before .before)) .loop .inv .4)
+run-same-length-6 t c = loop-of t (stretch-of t (c .before .before .before .before .before .before .before .before .before .before)) .loop .inv .2
 
 run-returns-2 : (t : ℕ) → Of run-lts.Need-returns-2 t
 run-returns-2 t c =
@@ -305,8 +298,8 @@ run-returns-2 t c =
     let e =
     aims-at _ _ _ _ _ _ _ _ _ _ _ (at-choose .choose .ensures) (at-count .choose-count .ensures) (at-choose .before .unpack .ensures)
     (c .before .target .given .1) (at-aim .aim .ensures .0) in
-    let at = c .before .before .before .before .before .before .before .before .before .before in
-    arm-no _ _ _ _ _ _ _ _ _ _ _ _ _ _ _ _ _ (at-call t at) (c .before .target .given .0 .0) e _ (loop-of t (stretch-of t at) .loop .inv .4)
+    let b = at-call t (c .before .before .before .before .before .before .before .before .before .before) in
+    arm-no _ _ _ _ _ _ _ _ _ _ _ _ _ _ _ _ b (c .before .target .given .0 .0) e
 
 run-enum-known-target-2 : (t : ℕ) → Of run-lts.Need-enum-known-target-2 t
 run-enum-known-target-2 t c = search needs
@@ -335,91 +328,85 @@ run-enter-requires t c κs =
     (n .some, x .1, few-tokens _ _ (n .begun) (omega (arith, good)), x .0)
 
 run-sub-run : (t : ℕ) → Of run-lts.Need-sub-run t
-run-sub-run t c = let y = there t (c .before .before .before .before .before) .2 in omega arith
+run-sub-run t c = let y = there t (c .before .before .before .before) .2 in omega arith
 
 run-run-requires : (t : ℕ) → Of run-lts.Need-run-requires t
 run-run-requires t c κs =
-    let at-size = c .before .before .before .before .before in
+    let at-size = c .before .before .before .before in
     let at-target = target-of t at-size in
     let call = call-of t at-target in
     let b = at-call t call in
     let y = there t at-size .2 in
     let pre = start-of t (loop-of t (stretch-of t call)) .pre in
     let z = pre .0 in
-    let deep = pre .1 .1 .1 in (
-      omega arith,
-      (
-        b .setting,
-        (
-          inside-sound _ _ _ _ _ _ _ _ _ _ _ _ _ _ _ _ _ b _ _ _ (aims t at-target) (numbered t at-target) _ _ (sized t at-size)
-              (c .before .before .before .before .enter .ensures) _ (mark-of t at-size .mark .ensures),
-          omega arith,
-        ),
-      ),
-    )
+    let deep = pre .1 .1 .1 in
+    let sound =
+    inside-sound _ _ _ _ _ _ _ _ _ _ _ _ _ _ _ _ b _ _ _ (aims t at-target) (numbered t at-target) _ _ (sized t at-size)
+    (c .before .before .before .enter .ensures) _ (mark-of t at-size .mark .ensures) in
+    (omega arith, (b .setting, (sound, omega arith)))
 
 run-enum-told : (t : ℕ) → Of run-lts.Need-enum-told t
 run-enum-told t c = search needs
 
 run-loop-less : (t : ℕ) → Of run-lts.Need-loop-less t
 run-loop-less t c =
-    let at = c .before .before .before .before .before .before .before .before .before .before .before in
+    let at = c .before .before .before .before .before .before .before .before .before in
     let n = numbers t (call-of t (target-of t (size-of t at))) in omega (arith, n .ahead, n .inside)
 
 run-loop-again : (t : ℕ) → Of run-lts.Need-loop-again t
 run-loop-again t c =
-    let at = c .before .before .before .before .before .before .before .before .before .before .before in
+    let at = c .before .before .before .before .before .before .before .before .before in
     let behind = came t at .goes-on (c .before .enum-told .given .1) in
     (still-stack t at, still-out t at, still-marks t at, behind .0, behind .1)
 
 run-enum-told-2 : (t : ℕ) → Of run-lts.Need-enum-told-2 t
 run-enum-told-2 t c = search needs
 
+run-same-length-7 : (t : ℕ) → Of run-lts.Need-same-length-7 t
+run-same-length-7 t c = still-stack t (c .before .before .before .before .before .before .before .before)
+
+run-same-length-8 : (t : ℕ) → Of run-lts.Need-same-length-8 t
+run-same-length-8 t c = still-out t (c .before .before .before .before .before .before .before .before)
+
 run-same-length-9 : (t : ℕ) → Of run-lts.Need-same-length-9 t
-run-same-length-9 t c = still-stack t (c .before .before .before .before .before .before .before .before .before .before)
-
-run-same-length-10 : (t : ℕ) → Of run-lts.Need-same-length-10 t
-run-same-length-10 t c = still-out t (c .before .before .before .before .before .before .before .before .before .before)
-
-run-same-length-11 : (t : ℕ) → Of run-lts.Need-same-length-11 t
-run-same-length-11 t c = still-marks t (c .before .before .before .before .before .before .before .before .before .before)
-
-run-same-length-12 : (t : ℕ) → Of run-lts.Need-same-length-12 t
-run-same-length-12 t c = kept-words t (c .before .before .before .before .before .before .before .before .before .before)
+run-same-length-9 t c = still-marks t (c .before .before .before .before .before .before .before .before)
 
 run-returns-3 : (t : ℕ) → Of run-lts.Need-returns-3 t
-run-returns-3 t c = came t (c .before .before .before .before .before .before .before .before .before .before) .ended (c .enum-told2 .given .1)
+run-returns-3 t c = came t (c .before .before .before .before .before .before .before .before) .ended (c .enum-told2 .given .1)
 
 run-enum-told-3 : (t : ℕ) → Of run-lts.Need-enum-told-3 t
 run-enum-told-3 t c = search needs
 
-run-sub-note : (t : ℕ) → Of run-lts.Need-sub-note t
-run-sub-note t c = start t (c .before .before .before .before .before .before .before .before .before .before .before .before) .pre .1 .1 .1
+-- behind a note
+abbrev run-of : (t : ℕ) → Of run-lts.After-slice-known11 t → Of run-lts.After-run t
+run-of t c = c .before .before .before .before .before .before .before .before .before .before .before .before
 
-run-sub-note-2 : (t : ℕ) → Of run-lts.Need-sub-note-2 t
-run-sub-note-2 t c =
-    let at-run = c .before .before .before .before .before .before .before .before .before .before .before .before in
+run-sub-note : (t : ℕ) → Of run-lts.Need-sub-note t
+run-sub-note t c =
+    let at-run = c .before .before .before .before .before .before .before .before .before in
     let n = numbers t (call-of t (at-target t at-run)) in omega (arith, n .ahead)
 
 run-note-requires : (t : ℕ) → Of run-lts.Need-note-requires t
-run-note-requires t c κs = tt
+run-note-requires t c κs =
+    let at-run = c .before .before .before .before .before .before .before .before .before in
+    let pre = start t at-run .pre in
+    let e = still-stack t at-run in
+    let fits = pre .1 .0 .roomy .operands-fit in
+    (omega arith, pre .1 .1 .1)
 
-run-same-length-13 : (t : ℕ) → Of run-lts.Need-same-length-13 t
-run-same-length-13 t c = still-stack t (run-of t c)
+run-same-length-10 : (t : ℕ) → Of run-lts.Need-same-length-10 t
+run-same-length-10 t c = c .before .before .note .kept .0 ∙ still-stack t (run-of t c)
 
-run-same-length-14 : (t : ℕ) → Of run-lts.Need-same-length-14 t
-run-same-length-14 t c = still-out t (run-of t c)
+run-same-length-11 : (t : ℕ) → Of run-lts.Need-same-length-11 t
+run-same-length-11 t c = still-out t (run-of t c)
 
-run-same-length-15 : (t : ℕ) → Of run-lts.Need-same-length-15 t
-run-same-length-15 t c = still-marks t (run-of t c)
-
-run-same-length-16 : (t : ℕ) → Of run-lts.Need-same-length-16 t
-run-same-length-16 t c = c .before .before .note .kept .0 ∙ kept-words t (run-of t c)
+run-same-length-12 : (t : ℕ) → Of run-lts.Need-same-length-12 t
+run-same-length-12 t c = still-marks t (run-of t c)
 
 run-returns-4 : (t : ℕ) → Of run-lts.Need-returns-4 t
 run-returns-4 t c =
     let at = run-of t c in
-    came t at .refused _ (c .before .before .before .before .before .enum-told3 .given .1) (start t at .pre .1 .1 .1) _ (c .before .before .note .ensures)
+    came t at .refused _ (c .before .before .before .before .enum-told3 .given .1) (start t at .pre .1 .1 .1) _ (c .before .before .note .ensures)
 
 pub +run-spec : {M : Type 1} → statement M
 +run-spec = close μ-run λ t. run-lts.spec (callees t)
@@ -433,7 +420,6 @@ pub +run-spec : {M : Type 1} → statement M
     (run-same-length t)
     (run-same-length-2 t)
     (run-same-length-3 t)
-    (run-same-length-4 t)
     (run-returns t)
     (run-enum-known-stop-2 t)
     (run-sub-top t)
@@ -444,10 +430,9 @@ pub +run-spec : {M : Type 1} → statement M
     (run-choose-count-requires t)
     (run-aim-requires t)
     (run-enum-known-target t)
+    (run-same-length-4 t)
     (run-same-length-5 t)
     (run-same-length-6 t)
-    (run-same-length-7 t)
-    (run-same-length-8 t)
     (run-returns-2 t)
     (run-enum-known-target-2 t)
     (run-mark-requires t)
@@ -462,17 +447,14 @@ pub +run-spec : {M : Type 1} → statement M
     (run-loop-less t)
     (run-loop-again t)
     (run-enum-told-2 t)
+    (run-same-length-7 t)
+    (run-same-length-8 t)
     (run-same-length-9 t)
-    (run-same-length-10 t)
-    (run-same-length-11 t)
-    (run-same-length-12 t)
     (run-returns-3 t)
     (run-enum-told-3 t)
     (run-sub-note t)
-    (run-sub-note-2 t)
     (run-note-requires t)
-    (run-same-length-13 t)
-    (run-same-length-14 t)
-    (run-same-length-15 t)
-    (run-same-length-16 t)
+    (run-same-length-10 t)
+    (run-same-length-11 t)
+    (run-same-length-12 t)
     (run-returns-4 t)

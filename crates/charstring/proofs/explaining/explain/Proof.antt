@@ -7,7 +7,7 @@ use Rattle.reading.specs.Rules.{rulesOf}
 use Rattle.reading.specs.Reading.{original}
 use Rattle.reading.specs.Answers.{Flattening}
 use Rattle.reading.specs.Explained.{withoutCalls, ofRun, explanation, Explanation, Explaining, inWords, explaining}
-use Rattle.charstring.specs.NotesLaws.{no-calls}
+use Rattle.charstring.specs.TellingLaws.{no-calls}
 use Rattle.charstring.proofs.Gates.{shut, opened, formed-by}
 use borrow.Author.Needs.{needs}
 use Rattle.charstring.proofs.explaining.explain.Statement.{statement}

@@ -1,73 +1,66 @@
-use Prim.Native.Nat.{_*_}
-use native.Mathlib.Omega.{arith}
-use lib.ListN.{length-set}
-use Rattle.charstring.specs.NotesLaws.{note-inside, note-outside}
+use mathlib.Core.Path.{_≡_, ap, _∙_}
+use mathlib.Core.List.{List}
+use Prim.Native.Nat.{ℕ, _-_, _*_}
+use lib.ListN.{drop}
+use Rattle.charstring.specs.Telling.{storeAt}
+use Rattle.charstring.specs.NotesLaws.{behind-put}
+use Rattle.charstring.specs.MarkedLaws.{rest-part}
 use borrow.Author.Needs.{needs}
 use Rattle.charstring.proofs.notes.note.Statement.{statement}
 use Rattle.charstring.proofs.notes.note.Tie as tie
 
-mul-i : tie.Need-mul-i
-mul-i c = search needs
+sub-around : tie.Need-sub-around
+sub-around c = search needs
 
-add-if1 : tie.Need-add-if1
-add-if1 c = search needs
+mul-store-call : tie.Need-mul-store-call
+mul-store-call c = search needs
 
-list-word-requires : tie.Need-list-word-requires
-list-word-requires c κs = search needs
+sub-store-call : tie.Need-sub-store-call
+sub-store-call c = search needs
 
-mul-words : tie.Need-mul-words
-mul-words c = search needs
+part-store-call-start : tie.Need-part-store-call-start
+part-store-call-start c = search needs
 
-slice-write-words : tie.Need-slice-write-words
-slice-write-words c = search needs
+part-store-call-end : tie.Need-part-store-call-end
+part-store-call-end c = search needs
 
-add-words : tie.Need-add-words
-add-words c = search needs
+cast-store-call : tie.Need-cast-store-call
+cast-store-call c = search needs
 
-mul-words-2 : tie.Need-mul-words-2
-mul-words-2 c = search needs
+mul-store-call-2 : tie.Need-mul-store-call-2
+mul-store-call-2 c = search needs
 
-slice-write-words-2 : tie.Need-slice-write-words-2
-slice-write-words-2 c =
-    let args = c .before .before .before .args in
-    let h = c .before .if1 .taken in
-    omega (arith, length-set (args .words .now) (3 * args .around) (c .list-word .result))
+code-of-requires : tie.Need-code-of-requires
+code-of-requires c κs = search needs
 
-add-words-2 : tie.Need-add-words-2
-add-words-2 c = search needs
-
-mul-words-3 : tie.Need-mul-words-3
-mul-words-3 c = search needs
-
-slice-write-words-3 : tie.Need-slice-write-words-3
-slice-write-words-3 c = search needs
+store-call-requires : tie.Need-store-call-requires
+store-call-requires c κs = search needs
 
 same-length : tie.Need-same-length
 same-length c = search needs
 
 returns : tie.Need-returns
 returns c =
-    let args = c .before .before .before .args in
-    note-inside (args .words .now) (args .around) _ _ _ (args .which) (c .list-word .ensures) (c .before .if1 .taken)
-
-returns-2 : tie.Need-returns-2
-returns-2 c = let args = c .before .before .args in note-outside (args .words .now) (args .around) _ _ (args .which) (c .if1 .left)
+    let start = c .before .before .before .before .before .before .before in
+    let a = start .args in
+    let stored = c .before .before .store-call in
+    let i = 3 * (a .rules .levels - a .levels) in
+    behind-put (a .rules .operands) (a .stack .now) _ (start .pre .0) ∙ stored .ensures
+    ∙ ap (λ (l : List ℕ). storeAt l i (c .before .before .before .code-of .result) (a .entry) (a .at)) (rest-part (a .rules .operands) (a .stack .now))
+    ∙ ap (λ (n : ℕ). storeAt (drop (a .rules .operands) (a .stack .now)) i n (a .entry) (a .at)) (c .before .before .before .code-of .ensures)
 
 pub note-spec : {M : Type 1} → statement M
 note-spec =
     tie.close
     (tie.spec
-    mul-i
-    add-if1
-    list-word-requires
-    mul-words
-    slice-write-words
-    add-words
-    mul-words-2
-    slice-write-words-2
-    add-words-2
-    mul-words-3
-    slice-write-words-3
+    sub-around
+    mul-store-call
+    sub-store-call
+    part-store-call-start
+    part-store-call-end
+    cast-store-call
+    mul-store-call-2
+    code-of-requires
+    store-call-requires
     same-length
-    returns
-    returns-2)
+    returns)

@@ -3,7 +3,9 @@ use Prim.Native.Nat.{ℕ, _-_, _≤_}
 use native.Mathlib.Nat.{le-refl}
 use native.Mathlib.Omega.{arith}
 use lib.ListN.{length, length-set}
+use lib.Seq.{drop-set-lt}
 use borrow.Author.Needs.{needs}
+use Rattle.charstring.specs.Run.{behind}
 use Rattle.charstring.specs.StretchLaws.{Stands, Turn, Head, headed, asks, safe, few-tokens, few-operands, operator-two}
 use Rattle.charstring.specs.StretchLaws.{arm-push, arm-short, arm-clear, arm-mask, arm-out, arm-bad, arm-return, arm-end, arm-call}
 use Rattle.charstring.specs.declared.state.State.{State}
@@ -17,6 +19,7 @@ use Rattle.charstring.proofs.stretch.stretch.Tie as tie
 abbrev Inv-loop : tie.InvT-loop
 Inv-loop cs from by stack₀ out₀ st₀ i₀ stack out st i =
     (length stack ≡ length stack₀) × (length out ≡ length out₀) × (i₀ ≤ i) × Stands cs by stack₀ out₀ st₀ i₀ stack out st i
+    × (behind by stack ≡ behind by stack₀)
 
 abbrev μ-loop : tie.MeasureT-loop
 μ-loop cs from by stack₀ out₀ st₀ i₀ stack out st i = length cs - i
@@ -43,7 +46,7 @@ small-budget : (c : tie.At-loop Inv-loop μ-loop) → c .before .before .before 
 small-budget c = let x = c .before .before .before .before .good in omega (arith, x)
 
 loop-holds : tie.Need-loop-holds Inv-loop μ-loop
-loop-holds c = (refl, refl, le-refl _, λ g x. x)
+loop-holds c = (refl, refl, le-refl _, λ g x. x, refl)
 
 look-requires : tie.Need-look-requires Inv-loop μ-loop
 look-requires c κs = let f = safe _ _ _ _ _ _ _ _ _ _ (turn-at c) in (f .hinted, omega arith)
@@ -102,6 +105,7 @@ loop-again c =
       at-put .put-two .kept .0 ∙ at-loop .loop .inv .1,
       omega (arith, a .turn .further, a .looked .0 .0),
       arm-short _ _ _ _ _ _ _ _ _ _ (a .turn) _ _ _ w _ _ _ (a .looked) (at-pack .pack-short .ensures) (at-put .put-two .ensures .1) refl (c .push .ensures),
+      drop-set-lt _ (at-loop .loop .stack) (at-loop .loop .st .count) w (a .looked .0 .2) ∙ at-loop .loop .inv .4,
     )
 
 -- ---- an operator that clears the stack
@@ -139,6 +143,7 @@ loop-again-2 c =
       p .kept .0 ∙ at-loop .loop .inv .1,
       omega (arith, a .turn .further, a .looked .0 .begun),
       arm-clear _ _ _ _ _ _ _ _ _ _ (a .turn) _ _ _ _ _ _ _ (a .looked) (at-settled .advance-at .ensures) (p .ensures .1) (p .ensures .0) (c .clear .ensures),
+      at-loop .loop .inv .4,
     )
 
 -- ---- any other number
@@ -187,6 +192,7 @@ loop-again-3 c =
       p .kept .0 ∙ at-loop .loop .inv .1,
       omega (arith, a .turn .further, a .looked .0),
       arm-push _ _ _ _ _ _ _ _ _ _ (a .turn) _ _ w _ _ _ (a .looked) (at-pack .pack .ensures) (p .ensures .1) (p .ensures .0) (c .push2 .ensures),
+      drop-set-lt _ (at-loop .loop .stack) (at-loop .loop .st .count) w (a .looked .2) ∙ at-loop .loop .inv .4,
     )
 
 -- ---- a mask
@@ -249,6 +255,7 @@ loop-again-4 c =
       omega (arith, a .turn .further, a .looked .0 .begun, a .looked .3),
       arm-mask _ _ _ _ _ _ _ _ _ _ (a .turn) _ _ _ _ _ _ _ _ _ _ _ (a .looked) (at-settled .advance-at2 .ensures) (p .ensures .1)
           (p .ensures .0) (m .ensures .1) (m .ensures .0) (c .mask .ensures),
+      at-loop .loop .inv .4,
     )
 
 -- ---- the ends
@@ -263,7 +270,9 @@ same-length-2 : tie.Need-same-length-2 Inv-loop μ-loop
 same-length-2 c = c .before .before .before .before .loop .inv .1
 
 returns : tie.Need-returns Inv-loop μ-loop
-returns c = let a = arm (c .before .before .before) (Calls _ _) (c .before .next4 .given .1) in arm-call _ _ _ _ _ _ _ _ _ _ (a .turn) _ _ (a .looked)
+returns c =
+    let at = c .before .before .before in
+    let a = arm at (Calls _ _) (c .before .next4 .given .1) in (arm-call _ _ _ _ _ _ _ _ _ _ (a .turn) _ _ (a .looked), at .before .loop .inv .4)
 
 enum-told : tie.Need-enum-told Inv-loop μ-loop
 enum-told c = search needs
@@ -283,9 +292,10 @@ same-length-4 c = c .before .before .before .before .before .loop .inv .1
 
 returns-2 : tie.Need-returns-2 Inv-loop μ-loop
 returns-2 c =
-    let a = arm (c .before .before .before .before) Returns (c .before .before .enum-told .given .1) in
+    let at = c .before .before .before .before in
+    let a = arm at Returns (c .before .before .enum-told .given .1) in
     let is = c .ended .ensures ∙ ap (λ (y : State). record { st = y; stop = Finished Back }) (c .before .go-back .ensures) in
-    arm-return _ _ _ _ _ _ _ _ _ _ (a .turn) _ is (a .looked)
+    (arm-return _ _ _ _ _ _ _ _ _ _ (a .turn) _ is (a .looked), at .before .loop .inv .4)
 
 ends : (c : tie.After-p Inv-loop μ-loop) → Arm (c .before .before .before) (Ends (c .p .given .0 .0))
 ends c = arm (c .before .before) _ (c .p .given .1)
@@ -319,9 +329,11 @@ returns-3 : tie.Need-returns-3 Inv-loop μ-loop
 returns-3 c =
     let at-settled = c .before .before in
     let p = at-settled .before .before .before .before .put-operator3 in
-    let a = ends (at-settled .before .before .before .before .before .before .before) in
+    let at = at-settled .before .before .before .before .before .before .before in
+    let a = ends at in
     let is = c .ended2 .ensures ∙ ap (λ (y : State). record { st = y; stop = Finished Ended }) (c .before .finish .ensures) in
-    arm-end _ _ _ _ _ _ _ _ _ _ (a .turn) _ _ _ _ _ is (a .looked) (at-settled .advance-at3 .ensures .0) (p .ensures .1) (p .ensures .0)
+    let x = arm-end _ _ _ _ _ _ _ _ _ _ (a .turn) _ _ _ _ _ is (a .looked) (at-settled .advance-at3 .ensures .0) (p .ensures .1) (p .ensures .0) in
+    (x, at .before .before .before .loop .inv .4)
 
 enum-told-2 : tie.Need-enum-told-2 Inv-loop μ-loop
 enum-told-2 c = search needs
@@ -337,7 +349,9 @@ same-length-8 c = c .before .before .before .before .loop .inv .1
 
 returns-4 : tie.Need-returns-4 Inv-loop μ-loop
 returns-4 c =
-    let a = arm (c .before .before .before) Empty (c .before .enum-told2 .given .1) in arm-out _ _ _ _ _ _ _ _ _ _ (a .turn) _ (c .ended3 .ensures) (a .looked)
+    let at = c .before .before .before in
+    let a = arm at Empty (c .before .enum-told2 .given .1) in
+    (arm-out _ _ _ _ _ _ _ _ _ _ (a .turn) _ (c .ended3 .ensures) (a .looked), at .before .loop .inv .4)
 
 enum-known-k : tie.Need-enum-known-k Inv-loop μ-loop
 enum-known-k c = search needs
@@ -353,8 +367,9 @@ same-length-10 c = c .before .before .before .before .before .loop .inv .1
 
 returns-5 : tie.Need-returns-5 Inv-loop μ-loop
 returns-5 c =
-    let a = arm (c .before .before .before .before) (Bad _) (c .before .before .k .given .1) in
-    arm-bad _ _ _ _ _ _ _ _ _ _ (a .turn) _ _ (c .ended4 .ensures) (a .looked)
+    let at = c .before .before .before .before in
+    let a = arm at (Bad _) (c .before .before .k .given .1) in
+    (arm-bad _ _ _ _ _ _ _ _ _ _ (a .turn) _ _ (c .ended4 .ensures) (a .looked), at .before .loop .inv .4)
 
 pub stretch-spec : {M : Type 1} → statement M
 stretch-spec =
