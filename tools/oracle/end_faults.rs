@@ -1,15 +1,16 @@
-//! Faults about how a charstring comes to its end, for both operations that flatten. Most tell what the rules give with the fault
+//! Faults about how a charstring comes to its end, for each operation that runs one. Most tell what the rules give with the fault
 //! in them.
 
 use crate::faults::{ruled, tell, tell_ruled, tell_tokens, tokens_place};
 use crate::operation::{library, Call, Fault, Lent, Operation};
 use crate::rules::flattening::{at_end, AtEnd, By, Ending, Rules, RULES};
 
-/// Those of an operation: all where it has 16, else none.
+/// Those of an operation: where it has 16 all, but the first where it has no 13; else none.
 pub fn of(operation: &Operation) -> &'static [Fault] {
-    match operation.answers.iter().any(|(answer, _)| *answer == 16) {
-        true => &FAULTS,
-        false => &[],
+    match [16, 13].map(|answer| operation.has(answer)) {
+        [true, true] => &FAULTS,
+        [true, false] => &FAULTS[1..],
+        _ => &[],
     }
 }
 
@@ -17,11 +18,11 @@ pub fn of(operation: &Operation) -> &'static [Fault] {
 pub const ANY_END: Rules = Rules { at_end: let_through, ..RULES };
 
 static FAULTS: [Fault; 10] = [
+    Fault { name: "16 is told after 13", plant: room_first },
     Fault {
         name: "16 is told in plain too",
         plant: |call, lent| by(call, lent, |at| at_end(AtEnd { strict: true, ..at })),
     },
-    Fault { name: "16 is told after 13", plant: room_first },
     Fault { name: "16 is told before 12", plant: composite_last },
     Fault {
         name: "16 is told at a return at depth 2",

@@ -70,6 +70,8 @@ pub(crate) fn tell(call: &Call, lent: &Lent, outcome: &Outcome) -> u32 {
     // SAFETY: what is told to be written fits the room.
     unsafe { lent.out.copy_from(outcome.bytes.as_ptr(), outcome.bytes.len()) };
     tell_rows(lent, &outcome.rows);
+    // SAFETY: so are the words that are told.
+    unsafe { lent.words.0.copy_from(outcome.words.as_ptr(), outcome.words.len()) };
     outcome.answer
 }
 

@@ -9,8 +9,8 @@ use oracle::tally::Tally;
 use oracle::{faults, fuzzed};
 use std::sync::Mutex;
 
-/// The library is not instrumented. So an answer, its reason, the kind of its width, and how far a run came, count for libFuzzer
-/// as something reached.
+/// The library is not instrumented. So an answer, its reason, the kind of its width, how many calls are open, and how far a run
+/// came, count for libFuzzer as something reached.
 #[link_section = "__libfuzzer_extra_counters"]
 #[used]
 static mut REACHED: [u8; 4096] = [0; 4096];
@@ -62,7 +62,9 @@ fn reached(call: &Call, outcome: &Outcome) {
     let far = reason.map_or(bits, |reason| reason as usize);
     let width = call.operation.width.and_then(|(kind, _)| outcome.values[kind]);
     let width = width.map_or(0, |kind| 1 + kind as usize);
-    for at in [place * 64 + answer as usize, 1024 + answer as usize * 64 + far, 4000 + width] {
+    let calls = call.operation.calls.and_then(|place| outcome.values[place]).unwrap_or(0);
+    let open = 3900 + calls.clamp(0, 64) as usize;
+    for at in [place * 64 + answer as usize, 1024 + answer as usize * 64 + far, open, 4000 + width] {
         // SAFETY: one thread writes single bytes, and no reference is kept.
         unsafe { (&raw mut REACHED).cast::<u8>().add(at % 4096).write(1) };
     }

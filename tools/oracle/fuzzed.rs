@@ -5,7 +5,8 @@
 //!     2       a number that is added to the others' sum; see `may_be_long`
 //!     3, 4    the budget, modulo 5000; where it may be long, as it is, and from FFF0 on 150000; of a font, a tenth of that
 //!     5, 6    the room, modulo 600; from FFF0 on, 40000
-//!     7..10   a value; where there are rows, 7 and 8 are how many bytes more than one too few each has, modulo 6
+//!     7..10   a value; where there are rows, 7 and 8 are how many bytes more than one too few each has, modulo 6; where there are
+//!             words, 7 is how many
 //!     11..14  a number; where there are rows, what they hold, over and over
 //!     15..18  how many bytes behind the head are the last slice, and the one before it; the first slice is all that is left
 
@@ -87,6 +88,9 @@ pub fn call(bytes: &[u8]) -> Call<'static> {
     fill(&mut call, slices, flags, long);
     if operation.takes_rows() {
         call.rows = rows(&call, &head).map(Cow::Owned);
+    }
+    if operation.takes_words() {
+        call.words = head[7].into();
     }
     call
 }
@@ -227,7 +231,11 @@ fn seed(call: &Call) -> Option<Vec<u8>> {
     let budget = call.budget.saturating_mul(glyphs(call.operation));
     seed.extend((budget.min(4999) as u16).to_be_bytes());
     seed.extend((call.room.min(599) as u16).to_be_bytes());
-    seed.extend(if call.operation.takes_rows() { said_rows(call) } else { said_numbers(call) });
+    seed.extend(match call.operation {
+        operation if operation.takes_rows() => said_rows(call),
+        operation if operation.takes_words() => [call.words.min(255) as u8, 0, 0, 0, 0, 0, 0, 0],
+        _ => said_numbers(call),
+    });
     seed.extend(u16::try_from(last.len()).ok()?.to_be_bytes());
     seed.extend(u16::try_from(middle.len()).ok()?.to_be_bytes());
     Some([&seed[..], last, middle, first].concat())
@@ -292,7 +300,7 @@ pub fn write_seeds(folder: &str) -> Result<(), String> {
 
 /// Those that may be long.
 fn long_seeds() -> Vec<Vec<u8>> {
-    let mut seeds = [over_lists(), fonts()].concat();
+    let mut seeds = [over_lists(), fonts(), explained()].concat();
     seeds.push(long_head(7, MANY, 0));
     for seed in &mut seeds {
         let sum = seed.iter().map(|&b| u32::from(b)).sum::<u32>() % 64;
@@ -301,14 +309,14 @@ fn long_seeds() -> Vec<Vec<u8>> {
     seeds
 }
 
-/// The head of an operation by its number, with all the budget and room, and rows of just their length; the slice before the last
-/// has so many bytes.
+/// The head of an operation by its number, with all the budget, room and words, and rows of just their length; the slice before
+/// the last has so many bytes.
 fn long_head(number: u8, flags: u8, middle: usize) -> Vec<u8> {
     let place = OPERATIONS.iter().position(|operation| operation.number == number).unwrap_or(0);
     let mut head = vec![place as u8, flags, 0, 0xFF, 0xFF, 0xFF, 0xFF];
     head.resize(HEAD, 0);
-    head[7..9].fill(1);
-    head[18] = middle as u8;
+    head[7..9].fill(if OPERATIONS[place].takes_words() { 0xFF } else { 1 });
+    head[17..19].copy_from_slice(&(middle as u16).to_be_bytes());
     head
 }
 
@@ -322,7 +330,7 @@ fn entry(bytes: &[u8]) -> Vec<u8> {
     [&[bytes.len() as u8], bytes].concat()
 }
 
-/// Charstrings over lists with another bias, over 65,535 hints, and with rows over as many flat bytes as a call keeps.
+/// Charstrings over lists with another bias, over 65,535 hints, and with rows or explained over as many flat bytes as a call keeps.
 fn over_lists() -> Vec<Vec<u8>> {
     let twice = |i: u8| entry(&[33 + i, 0x0A, 33 + i, 0x0A]);
     let stems = entry(&[&[0x8B; 48][..], &[1]].concat());
@@ -332,9 +340,9 @@ fn over_lists() -> Vec<Vec<u8>> {
         for shape in [0xD6, 0xD7, 0xD8, 0xF7] {
             let calls =
                 [0xFE, 0xFF, 0x0A, 0xFE, 0xFE, 0x1D, 0x20, 0x0A, 0x1C, 0x80, 0x00, 0x0A, 0x0E];
-            seeds.extend([8, 32].map(|number| over_list(number, flags, &two(shape), &calls)));
+            seeds.extend([8, 32, 64].map(|number| over_list(number, flags, &two(shape), &calls)));
         }
-        seeds.push(over_list(32, flags, &moves(), &[0x22, 0x0A, 0x0E]));
+        seeds.extend([32, 64].map(|n| over_list(n, flags, &moves(), &[0x22, 0x0A, 0x0E])));
         seeds.push(over_list(8, flags, &doubled, &[0x20, 0x0A, 0x8B, 0x8B, 0x0E]));
     }
     seeds
@@ -350,6 +358,15 @@ fn fonts() -> Vec<Vec<u8>> {
         seeds.push(over_list(33, STRICT, &moves(), &[&[0][..], &glyphs].concat()));
     }
     seeds
+}
+
+/// Charstrings that are refused in entry 256, also by a call behind 256 bytes.
+fn explained() -> Vec<Vec<u8>> {
+    let far = [vec![0; 1 + 256], entry(&[0x00])].concat();
+    let call = [0xF7, 0x29, 0x0A];
+    [0, 256]
+        .map(|before| over_list(64, 0, &far, &[&vec![0x15; before], &call[..]].concat()))
+        .to_vec()
 }
 
 /// Entries of 64, 512 and 4,096 moves.

@@ -1,6 +1,6 @@
-//! What is lent to a C function: each slice, the room and the rows stand flush against a page that nothing may touch, so that
-//! code without instrumentation faults at the first byte that it reads or writes too far. The room, the bytes on the other side
-//! of it and of the rows, and each place hold a pattern. After every call all of it is looked at.
+//! What is lent to a C function: each slice, the room, the rows and the words stand flush against a page that nothing may touch,
+//! so that code without instrumentation faults at the first byte that it reads or writes too far. The room, the words, the bytes
+//! on the other side of them and of the rows, and each place hold a pattern. After every call all of it is looked at.
 
 use crate::operation::{
     library, Argument, Call, Fault, Found, Lent, Operation, Outcome, Place, Side, NO_WIDTH, PLACES,
@@ -11,9 +11,12 @@ use std::ptr;
 use std::slice;
 use std::sync::OnceLock;
 
-/// The most bytes of a slice, a room or a row.
+/// The most bytes of a slice, a room, a row or the words.
 const ARENA: usize = 1 << 25;
 const PAGE: usize = 1 << 16;
+
+/// The bytes of a word.
+const WORD: usize = size_of::<u64>();
 
 /// How many bytes on the side where there is no page are looked at.
 const GUARD: usize = 64;
@@ -22,7 +25,7 @@ const GUARD: usize = 64;
 pub const MOST_ROOM: usize = ARENA - GUARD;
 
 /// What a place holds before a call.
-const UNSET: u64 = 0xA55A_5AA5_C33C_3CC3;
+pub const UNSET: u64 = 0xA55A_5AA5_C33C_3CC3;
 
 /// The pattern starts at another of so many bytes at each call. No byte of it is 0.
 const STARTS: usize = 256;
@@ -90,6 +93,7 @@ pub struct Lender {
     arenas: [Arena; 3],
     out: Arena,
     rows: [Arena; 2],
+    words: Arena,
     pattern: Vec<u8>,
     start: usize,
 }
@@ -101,7 +105,7 @@ impl Lender {
             .collect();
         let arenas = [Arena::new(), Arena::new(), Arena::new()];
         let rows = [Arena::new(), Arena::new()];
-        Lender { arenas, out: Arena::new(), rows, pattern, start: 0 }
+        Lender { arenas, out: Arena::new(), rows, words: Arena::new(), pattern, start: 0 }
     }
 
     /// Makes a call, and looks at all that was lent.
@@ -118,20 +122,25 @@ impl Lender {
         }
         let mut outcome = outcome(call, answer, &places, left((lent.out, lent.room)))?;
         outcome.rows = rows(call, answer, lent.rows.map(left))?;
-        let reported = if call.operation.found == Found::Written { outcome.bytes.len() } else { 0 };
-        if !self.keeps_others(call, side, reported) {
+        // SAFETY: the words lie in their arena, which starts and ends at one, and the call is over.
+        outcome.words = told_words(call, &outcome, unsafe {
+            slice::from_raw_parts(lent.words.0, lent.words.1)
+        });
+        if !self.keeps_others(call, side, &outcome) {
             return Err("  a byte was changed outside of what is reported\n".into());
         }
         Ok(outcome)
     }
 
-    /// Whether nothing changed beside the room and the rows, nor in the room behind what is reported.
-    fn keeps_others(&self, call: &Call, side: Side, reported: usize) -> bool {
+    /// Whether nothing changed beside the room, the rows and the words, nor in the room and the words behind what is reported.
+    fn keeps_others(&self, call: &Call, side: Side, reported: &Outcome) -> bool {
         let pattern = &self.pattern[self.start..];
         let row =
             |(arena, row): (&Arena, &Cow<[u8]>)| arena.keeps(row.len(), side, pattern, row.len());
-        self.out.keeps(call.room, side, pattern, reported)
+        let written = if call.operation.found == Found::Written { reported.bytes.len() } else { 0 };
+        self.out.keeps(call.room, side, pattern, written)
             && self.rows.iter().zip(&call.rows).all(row)
+            && self.words.keeps(WORD * call.words, side, pattern, WORD * reported.words.len())
     }
 
     /// Lays all out.
@@ -159,7 +168,8 @@ impl Lender {
             // two lists may be the very same bytes
             slices[2] = slices[1];
         }
-        Lent { slices, out, room: call.room, rows, places: places.as_mut_ptr(), side }
+        let words = (self.words.guarded(WORD * call.words, side, pattern).cast(), call.words);
+        Lent { slices, out, room: call.room, rows, words, places: places.as_mut_ptr(), side }
     }
 }
 
@@ -220,6 +230,12 @@ fn rows(call: &Call, answer: u32, left: [&[u8]; 2]) -> Result<[Vec<u8>; 2], Stri
         return Err(format!("  answer {answer} changed a row\n"));
     }
     Ok(Default::default())
+}
+
+/// The words of as many calls as are said to be open and have room; none where calls are not told.
+fn told_words(call: &Call, outcome: &Outcome, left: &[u64]) -> Vec<u64> {
+    let open = call.operation.calls.and_then(|place| outcome.values[place]).unwrap_or(0);
+    left[..3 * (open as usize).min(left.len() / 3)].to_vec()
 }
 
 /// A slice as the C function takes it: lengths are words of this machine.

@@ -2,6 +2,7 @@
 
 pub mod compare;
 mod end_faults;
+mod explain_faults;
 pub mod faults;
 pub mod fixed;
 pub mod fonts;

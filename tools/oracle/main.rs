@@ -23,7 +23,7 @@ const LEAST: u64 = 1000;
 
 /// Whose word what is.
 const HELD: &str = "\
-the rule's word, at every call: the answer, the values at the places, and the bytes
+the rule's word, at every call: the answer, the values at the places, the bytes, the rows and the words
 the Rust's word: where docs/RULES.md compares the two, that it gives the same values and bytes, or an error
 and of each call: no byte changed but those reported, no place set but those that the answer gives, nothing touched beyond";
 const NO_FONTS: &str = "no CFF fonts were found; name folders in FONTS, or apt-get install ";

@@ -1,4 +1,4 @@
-//! Faults about operands that wait at a mask, for both operations that flatten. All but the last tell what the rules give with
+//! Faults about operands that wait at a mask, for each operation that runs a charstring. All but the last tell what the rules give with
 //! the fault in them.
 
 use crate::faults::{tell_ruled, tell_tokens};
@@ -7,7 +7,7 @@ use crate::rules::flattening::{at_mask, AtMask, Operands, Rules, RULES};
 
 /// Those of an operation: all where it has 15, else none.
 pub fn of(operation: &Operation) -> &'static [Fault] {
-    match operation.answers.iter().any(|(answer, _)| *answer == 15) {
+    match operation.has(15) {
         true => &FAULTS,
         false => &[],
     }

@@ -7,7 +7,7 @@ use std::borrow::Cow;
 use std::collections::BTreeSet;
 
 /// The most places that a C function has.
-pub const PLACES: usize = 6;
+pub const PLACES: usize = 7;
 
 pub struct Operation {
     /// Its number in the program `cases`.
@@ -23,6 +23,8 @@ pub struct Operation {
     pub reasons: Option<(usize, &'static [u32])>,
     /// The place for the kind of a width, and the one for the width, which comes where the kind is 0 or 1.
     pub width: Option<(usize, usize)>,
+    /// The place for how many calls are open. Each that the words have room for is told by three of them, the outermost first.
+    pub calls: Option<usize>,
     /// Where the bytes come from that an accepted call shows.
     pub found: Found,
     /// What must come: the rule's word, with which the Rust must agree where it has one.
@@ -56,16 +58,19 @@ pub struct Call<'a> {
     pub slices: [Cow<'a, [u8]>; 3],
     /// The rows as lent.
     pub rows: [Cow<'a, [u8]>; 2],
+    /// How many words are lent.
+    pub words: usize,
 }
 
-/// What a call gives: the answer, the values at the places that it gives, the bytes written or found, and the whole rows as an
-/// accepted call leaves them. A refused one leaves them as lent, and gives none.
+/// What a call gives: the answer, the values at the places that it gives, the bytes written or found, the whole rows as an
+/// accepted call leaves them, and the words that it tells. A refused one leaves the rows as lent, and gives none.
 #[derive(Clone, Debug, PartialEq, Eq)]
 pub struct Outcome {
     pub answer: u32,
     pub values: [Option<i64>; PLACES],
     pub bytes: Vec<u8>,
     pub rows: [Vec<u8>; 2],
+    pub words: Vec<u64>,
 }
 
 /// Which page a block stands against: the one before it, or the one behind it.
@@ -81,6 +86,7 @@ pub struct Lent {
     pub out: *mut u8,
     pub room: usize,
     pub rows: [(*mut u8, usize); 2],
+    pub words: (*mut u64, usize),
     pub places: *mut u64,
     /// Whether bytes before the room may be touched, or behind it.
     pub side: Side,
@@ -101,6 +107,7 @@ pub const BARE: Operation = Operation {
     answers: &[],
     reasons: None,
     width: None,
+    calls: None,
     found: Found::Nothing,
     owed: |_| Err("no rule is given".into()),
     invoke: |_, _| u32::MAX,
@@ -129,6 +136,8 @@ pub enum Argument {
     Lengths,
     /// Bytes that an accepted call changes.
     Row(usize),
+    /// How many words are lent.
+    Words,
 }
 
 /// The type of a place.
@@ -174,6 +183,10 @@ pub enum Must<'a> {
     GiveTheSame,
     /// The same answer and bytes, and the same at these places.
     GiveTheSameAt(u8),
+    /// The same answer, and the same at these places.
+    AgreeAt(u8),
+    /// The same, and further words behind the same ones.
+    GoOn,
     Refuse(u32),
     /// An answer 0 with these bytes.
     Write(&'a [u8]),
@@ -187,8 +200,8 @@ impl<'a> Call<'a> {
     pub fn of(operation: &'static Operation) -> Self {
         let (kind, value, number, profile, budget, room) = (0, 0, 0, 0, 0, 0);
         let none = || Cow::Borrowed(&[][..]);
-        let (slices, rows) = ([none(), none(), none()], [none(), none()]);
-        Call { operation, kind, value, number, profile, budget, room, slices, rows }
+        let (slices, rows, words) = ([none(), none(), none()], [none(), none()], 0);
+        Call { operation, kind, value, number, profile, budget, room, slices, rows, words }
     }
 
     pub fn fixed(&self) -> bool {
@@ -247,7 +260,8 @@ impl<'a> Call<'a> {
 
 impl Outcome {
     pub fn refused(answer: u32) -> Self {
-        Outcome { answer, values: [None; PLACES], bytes: Vec::new(), rows: Default::default() }
+        let (values, bytes, rows) = ([None; PLACES], Vec::new(), Default::default());
+        Outcome { answer, values, bytes, rows, words: Vec::new() }
     }
 
     /// An answer with its first values.
@@ -255,6 +269,12 @@ impl Outcome {
         let mut told = Outcome { bytes, ..Outcome::refused(answer) };
         told.values.iter_mut().zip(values).for_each(|(place, value)| *place = Some(value));
         told
+    }
+
+    /// Whether another has the same answer, and the same at these places.
+    fn agrees(&self, other: &Outcome, places: u8) -> bool {
+        let at = |i: usize| places >> i & 1 == 0 || self.values[i] == other.values[i];
+        self.answer == other.answer && (0..PLACES).all(at)
     }
 }
 
@@ -287,6 +307,16 @@ impl Operation {
     /// Whether rows are lent to it.
     pub fn takes_rows(&self) -> bool {
         self.arguments.contains(&Argument::Row(0))
+    }
+
+    /// Whether words are lent to it.
+    pub fn takes_words(&self) -> bool {
+        self.arguments.contains(&Argument::Words)
+    }
+
+    /// Whether it has an answer.
+    pub fn has(&self, answer: u32) -> bool {
+        self.answers.iter().any(|(own, _)| *own == answer)
     }
 
     /// The places that an answer gives: of its sets, the first with all places that changed; `None` where there is none.
@@ -356,9 +386,10 @@ impl Must<'_> {
             Must::Any => true,
             Must::GiveTheSame => first == second,
             Must::GiveTheSameAt(places) => {
-                let at = |i: usize| places >> i & 1 == 0 || first.values[i] == second.values[i];
-                first.answer == second.answer && first.bytes == second.bytes && (0..PLACES).all(at)
+                first.agrees(second, *places) && first.bytes == second.bytes
             }
+            Must::AgreeAt(places) => first.agrees(second, *places),
+            Must::GoOn => first.agrees(second, u8::MAX) && second.words.starts_with(&first.words),
             Must::Refuse(answer) => second.answer == *answer,
             Must::Write(bytes) => second.answer == 0 && second.bytes == *bytes,
             Must::Tell(values) => {

@@ -8,6 +8,9 @@ pub const MOST: usize = 1_048_576;
 /// The most bytes that a row may have.
 pub const MOST_ROW: usize = 16_384;
 
+/// The most words that may be asked for.
+pub const MOST_WORDS: usize = 192;
+
 /// The line for a record that is none.
 pub const UNREADABLE: &str = "?";
 
@@ -23,6 +26,7 @@ impl Call<'_> {
                 Argument::Number => record.extend(self.number.to_be_bytes()),
                 Argument::Budget => record.extend(self.budget.to_be_bytes()),
                 Argument::Room => record.extend((self.room as u32).to_be_bytes()),
+                Argument::Words => record.extend((self.words as u32).to_be_bytes()),
                 Argument::Bytes(_) | Argument::List(_) | Argument::Lengths | Argument::Row(_) => {
                     let bytes = self.bytes(*argument).map_or(&[][..], |bytes| &bytes[..]);
                     let unit = if *argument == Argument::Lengths { 4 } else { 1 };
@@ -34,10 +38,12 @@ impl Call<'_> {
         record
     }
 
-    /// The line that is owed for the call's record; a kind, a profile, a room, a row or a length out of range makes it no record.
+    /// The line that is owed for the call's record; a kind, a profile, a room, a row, a length or a number of words out of range
+    /// makes it no record.
     pub fn line(&self) -> Result<String, String> {
         let long_row = self.rows.iter().any(|row| row.len() > MOST_ROW);
-        let long = self.room > MOST || self.record().len() > MOST || long_row;
+        let long_lent = self.room > MOST || self.words > MOST_WORDS || long_row;
+        let long = self.record().len() > MOST || long_lent;
         if self.kind > 1 || self.profile > 1 || long {
             return Ok(UNREADABLE.into());
         }
@@ -55,6 +61,7 @@ impl Call<'_> {
                 Argument::Number => format!(", number {}", self.number),
                 Argument::Budget => format!(", budget {}", self.budget),
                 Argument::Room => format!(", room {}", self.room),
+                Argument::Words => format!(", words {}", self.words),
                 _ => continue,
             };
         }
@@ -68,7 +75,8 @@ impl Call<'_> {
 }
 
 impl Outcome {
-    /// What `cases` prints: the answer, the values that it gives, and of an accepted call the bytes and the rows, where it has some.
+    /// What `cases` prints: the answer, the values that it gives, of an accepted call the bytes and the rows, where it has some, and
+    /// the open calls that the words tell.
     pub fn line(&self, operation: &Operation) -> String {
         let mut line = self.answer.to_string();
         let (kind, width) = operation.width.unwrap_or((PLACES, PLACES));
@@ -84,6 +92,10 @@ impl Outcome {
         }
         if self.answer == 0 && operation.takes_rows() {
             self.rows.iter().for_each(|row| line += &format!(" {}", hex(row)));
+        }
+        for call in self.words.chunks_exact(3) {
+            let list = ["L", "G"].get(call[0] as usize).unwrap_or(&UNREADABLE);
+            line += &format!(" {list} {} {}", call[1], call[2]);
         }
         line
     }

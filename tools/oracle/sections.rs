@@ -5,7 +5,8 @@ use crate::fonts::{self, Font};
 use crate::inputs::case::{L, NONE, STRICT};
 use crate::inputs::{damaged, structured};
 use crate::lend::MOST_ROOM;
-use crate::operation::Call;
+use crate::operation::{Call, Outcome};
+use crate::operations::explain::explained;
 use crate::operations::flatten_marked::with_exact_rows;
 use crate::operations::{flatten, flatten_font, OPERATIONS};
 use crate::random::Random;
@@ -25,8 +26,12 @@ const LONG: u32 = 1_100_000;
 const SHORT_ROOM: usize = 64;
 const LONG_ROOM: usize = 1024;
 
-/// Of a font so many glyphs, spread evenly, are run with rows too: each of these has lists made anew.
+/// Of a font so many glyphs, spread evenly, are run with rows too, and so many explained: each of these has lists made anew.
 const WITH_ROWS: usize = 500;
+const EXPLAINED: usize = 150;
+
+/// Words for as many calls as can be open.
+const WORDS: usize = 189;
 
 /// What the random ones of a sample have at least, however long the sections before them took.
 const LEAST_TIME: Duration = Duration::from_secs(5);
@@ -64,10 +69,14 @@ struct Part<'a> {
 
 impl Part<'_> {
     fn look(&mut self, call: &Call, every: usize) -> Result<(), String> {
+        self.outcome(call, every).map(drop)
+    }
+
+    fn outcome(&mut self, call: &Call, every: usize) -> Result<Outcome, String> {
         self.done.add(1);
         self.count += 1;
         let Thread { comparison, tally, .. } = &mut *self.thread;
-        comparison.look(call, every, tally).map(drop).map_err(|difference| {
+        comparison.look(call, every, tally).map_err(|difference| {
             let described = described(comparison, difference);
             format!("difference in {}, input {}:\n{described}", self.name, self.count)
         })
@@ -177,18 +186,24 @@ impl Run {
     }
 }
 
-/// Glyph by glyph, at times with rows too, and in one call for each local list in both profiles.
+/// Glyph by glyph, at times with rows too or explained, and in one call for each local list in both profiles.
 fn of_font(part: &mut Part, font: &Font, most: usize) -> Result<(), String> {
     let glyphs = font.glyphs().count();
     let step = glyphs.div_ceil(most).max(1);
-    let with_rows = glyphs.div_ceil(step).div_ceil(WITH_ROWS).max(1);
+    let [with_rows, explaining] =
+        [WITH_ROWS, EXPLAINED].map(|most| glyphs.div_ceil(step).div_ceil(most).max(1));
     for (i, glyph) in font.glyphs().step_by(step).enumerate() {
         // a font's lists are long, and are lent anew at each call: so of what follows, a third or less
         let slices = [glyph.charstring, glyph.globals, glyph.locals];
         let call = flattening(slices, LONG, LONG_ROOM);
-        part.look(&call, 3)?;
+        let tokens = part.outcome(&call, 3)?.values[1].unwrap_or(0) as u32;
         if i % with_rows == 0 {
-            part.look(&with_exact_rows(call), 9)?;
+            part.look(&with_exact_rows(call.again()), 9)?;
+        }
+        if i % explaining == 0 {
+            // with half the tokens 3 comes, at times within calls
+            part.look(&explained(call.again(), WORDS), 9)?;
+            part.look(&explained(Call { budget: tokens / 2, ..call }, WORDS), 9)?;
         }
     }
     for slices in font.whole(step) {

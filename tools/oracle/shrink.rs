@@ -74,10 +74,17 @@ impl Shrinking<'_> {
                     }
                     Err(_) => self.drop_bytes(argument, 1),
                 },
+                Argument::Words => self.lend_fewer_words(),
                 _ => false,
             };
         }
         smaller
+    }
+
+    fn lend_fewer_words(&mut self) -> bool {
+        let words = self.smallest.call.words;
+        let mut fewer = [0, words / 2, words.saturating_sub(1)].into_iter().filter(|&n| n < words);
+        fewer.any(|words| self.differs(Call { words, ..self.smallest.call.clone() }))
     }
 
     /// Leaves out runs of bytes, long ones first.

@@ -1,7 +1,9 @@
-//! How often each operation gave each answer, for each reason that it tells, and what the accepted charstrings had in them.
+//! How often each operation gave each answer, for each reason that it tells, what the accepted charstrings had in them, and where
+//! those were refused that are explained.
 
 use crate::operation::{Call, Kind, Operation, Outcome, Owed, NO_WIDTH};
-use crate::operations::{flatten, OPERATIONS};
+use crate::operations::flatten::{self, stops};
+use crate::operations::OPERATIONS;
 use std::collections::BTreeMap;
 
 #[derive(Default)]
@@ -21,6 +23,8 @@ pub struct Tally {
     inner_widths: u64,
     /// Those with rows, by whether globals, locals or both are marked.
     marked: [u64; 3],
+    /// Refused runs that are explained, by whether no call is open, one or more.
+    open: [u64; 3],
     /// Calls that those followed, and how deep.
     followed: u64,
     deepest: u32,
@@ -50,6 +54,9 @@ impl Tally {
                 self.marked.iter_mut().zip(marked).for_each(|(all, one)| *all += one);
             }
         }
+        if let (true, Some(place)) = (stops(outcome.answer), call.operation.calls) {
+            self.open[outcome.values[place].map_or(0, |open| open.clamp(0, 2) as usize)] += 1;
+        }
     }
 
     pub fn call(&mut self, call: &Call, outcome: &Outcome, owed: &Owed) {
@@ -69,6 +76,7 @@ impl Tally {
         self.widths.iter_mut().zip(other.widths).for_each(|(ours, theirs)| *ours += theirs);
         self.inner_widths += other.inner_widths;
         self.marked.iter_mut().zip(other.marked).for_each(|(ours, theirs)| *ours += theirs);
+        self.open.iter_mut().zip(other.open).for_each(|(ours, theirs)| *ours += theirs);
         self.followed += other.followed;
         self.deepest = self.deepest.max(other.deepest);
     }
@@ -106,6 +114,10 @@ impl Tally {
                 "  accepted with rows: {globals} with a global marked, {locals} with a local, {both} with both"
             );
         }
+        let [none, one, more] = self.open;
+        if none + one + more > 0 {
+            println!("  refused and explained: {none} with no call open, {one} with one, {more} with more");
+        }
         println!(
             "  {} calls also held against the Rust; {} by the rule alone",
             self.rust,
@@ -133,6 +145,11 @@ impl Tally {
         lacks.extend(self.lacking_widths(least(&flatten::OPERATION)));
         if self.marked.contains(&0) {
             lacks.push("no rows had a global marked, a local, or both".into());
+        }
+        if self.open.contains(&0) {
+            lacks.push(
+                "no run was explained that was refused with no call open, one, or more".into(),
+            );
         }
         lacks
     }

@@ -6,15 +6,17 @@ use crate::operations::flatten::{after, set, stops, KIND_PLACE, WIDTH_PLACE};
 use crate::rules::flattening::{at_operator, width_at, AtOperator, Rules, Width, RULES};
 use crate::rules::number::Operand;
 
-/// Those of an operation: all where it tells a width, else none.
+/// Those of an operation: where it tells a width all, but the first where it has no 13; else none.
 pub fn of(operation: &Operation) -> &'static [Fault] {
-    match operation.width {
-        Some(_) => &FAULTS,
-        None => &[],
+    match (operation.width, operation.has(13)) {
+        (Some(_), true) => &FAULTS,
+        (Some(_), false) => &FAULTS[1..],
+        (None, _) => &[],
     }
 }
 
 static FAULTS: [Fault; 25] = [
+    Fault { name: "the width is told with 13", plant: told_without_room },
     // which operand
     Fault {
         name: "the top operand is the width",
@@ -124,7 +126,6 @@ static FAULTS: [Fault; 25] = [
         plant: |call, lent| by(call, lent, |at| nothing_if(at.depth > 1, at)),
     },
     // which places
-    Fault { name: "the width is told with 13", plant: told_without_room },
     Fault { name: "a width is set where there is none", plant: set_where_none },
     Fault {
         name: "a refusal of the run sets the kind of the width",

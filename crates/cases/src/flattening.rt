@@ -1,4 +1,4 @@
-// The operations over the crates charstring and font, under the arguments that both take, and the
+// The operations over the crates charstring and font, under the arguments that all take, and the
 // lines of their answers.
 use crate::arguments::Flag;
 use crate::arguments::bytes_at;
@@ -11,16 +11,19 @@ use crate::line::Line;
 use crate::room::copy;
 use crate::room::differ;
 use crate::room::fill;
+use crate::room::fill_words;
 use font::FontFlattened;
 use index::Flaw;
 use number::Operand;
 use reading::Advance;
+use reading::Explained;
 use reading::Flattened;
 use reading::FlattenedMarked;
 use reading::Profile;
 use reading::Stopped;
 
-// What 8, 32 and 33 begin with: the numbers, and where the lists stand and what follows them.
+// What 8, 32, 33 and 64 begin with: the numbers, and where the lists stand and what follows them. 64 has
+// the number of words in the place of the room.
 struct Asked {
     strict: bool,
     budget: u32,
@@ -119,6 +122,28 @@ fn mark(
     )
 }
 
+// 64: profile, budget, words, charstring, globals, locals. So many of the words are lent.
+pub(crate) fn explain(args: &[u8], words: &mut [u64]) -> Line {
+    let Given::Asked(asked) = numbers_and_places(args, 3) else {
+        return Line::unasked();
+    };
+    let size = asked.room;
+    if words.len() < size {
+        return Line::unasked();
+    }
+    let lent = &mut words[0..size];
+    fill_words(lent);
+    let answer = charstring::explain(
+        bytes_at(args, STRING),
+        bytes_at(args, asked.globals),
+        bytes_at(args, asked.locals),
+        profile(asked.strict),
+        asked.budget,
+        lent,
+    );
+    explained(answer, lent)
+}
+
 // What is asked, where the arguments are the numbers and so many `bytes`.
 fn numbers_and_places(args: &[u8], count: usize) -> Given {
     if !shaped(args, STRING, count) {
@@ -146,18 +171,34 @@ fn profile(strict: bool) -> Profile {
     Profile::Plain
 }
 
-// `0 N TOKENS WIDTH HEX`; `1 ENTRY REASON` or `1 REASON`, and the same for 2; `9 TOKENS`, or `15` alone.
+// The verdict, and then HEX where it is accepted.
 fn flattened(answer: Flattened, room: &[u8]) -> Line {
+    let line = verdict(answer);
+    if let Flattened::Accepted(n, _, _) = answer {
+        return line.shows(n, room);
+    }
+    line.keeps(room)
+}
+
+// `0 N TOKENS WIDTH`; `1 ENTRY REASON` or `1 REASON`, and the same for 2; `9 TOKENS`, or `15` alone.
+fn verdict(answer: Flattened) -> Line {
     let line = Line::of(answer.number());
     match answer {
         Flattened::Accepted(n, tokens, advance) => {
-            said(advance, line.value(n as u64).value(tokens as u64)).shows(n, room)
+            said(advance, line.value(n as u64).value(tokens as u64))
         }
-        Flattened::BadGlobals(flaw) => flawed(flaw, line).keeps(room),
-        Flattened::BadLocals(flaw) => flawed(flaw, line).keeps(room),
-        Flattened::Refused(why) => stopped(why, line).keeps(room),
-        Flattened::NoRoom(n, tokens) => line.value(n as u64).value(tokens as u64).keeps(room),
+        Flattened::BadGlobals(flaw) => flawed(flaw, line),
+        Flattened::BadLocals(flaw) => flawed(flaw, line),
+        Flattened::Refused(why) => stopped(why, line),
+        Flattened::NoRoom(n, tokens) => line.value(n as u64).value(tokens as u64),
     }
+}
+
+// The verdict, how many calls are open, and then those that the words have room for.
+fn explained(answer: Explained, words: &[u64]) -> Line {
+    let told = answer.verdict;
+    let calls = answer.calls;
+    verdict(told).value(calls as u64).tells(calls, words)
 }
 
 // As 8; `43`.

@@ -1,7 +1,9 @@
 // A line as an operation makes it: the answer's number and the values, and what follows of the
-// room and of the rows. A struct by value, so that an operation has nothing to do with output.
+// room, of the rows and of the words. A struct by value, so that an operation has nothing to do with
+// output.
 use crate::arguments::first;
 use crate::room::changed;
+use crate::room::words_changed;
 
 pub(crate) struct Line {
     // The number and the values, which are `length` bytes.
@@ -14,7 +16,9 @@ pub(crate) struct Line {
     pub(crate) rows: bool,
     pub(crate) globals: usize,
     pub(crate) locals: usize,
-    // Whether a byte that is not reported was changed, or an answer contradicts itself.
+    // So many calls follow, three of the words for each.
+    pub(crate) calls: usize,
+    // Whether a byte or a word that is not reported was changed, or an answer contradicts itself.
     pub(crate) marked: bool,
 }
 
@@ -76,6 +80,15 @@ impl Line {
         self
     }
 
+    // The answer counts so many open calls, and has told as many as the words lent have room for.
+    pub(crate) fn tells(mut self, open: usize, words: &[u64]) -> Self {
+        let room = words.len() / 3;
+        let told = if open < room { open } else { room };
+        self.calls = told;
+        self.marked = words_changed(told, words);
+        self
+    }
+
     // A byte that is not reported was changed, or the answer contradicts itself, if `wrong`.
     pub(crate) fn marks(mut self, wrong: bool) -> Self {
         if wrong {
@@ -94,6 +107,7 @@ impl Line {
             rows: false,
             globals: 0,
             locals: 0,
+            calls: 0,
             marked: false,
         }
     }

@@ -5,13 +5,14 @@ use crate::arguments::first;
 use crate::line::Line;
 use libc::STDOUT_FILENO;
 
-// Writes a line, over the room and the rows that its operation was lent, and answers whether it went
-// out.
+// Writes a line, over the room, the rows and the words that its operation was lent, and answers whether
+// it went out.
 pub(crate) fn write_line(
     line: Line,
     room: &[u8],
     globals_row: &[u8],
     locals_row: &[u8],
+    words: &[u64],
     buffer: &mut [u8],
 ) -> bool {
     let text = line.text;
@@ -19,8 +20,9 @@ pub(crate) fn write_line(
     let shown = put_shown(at, line.hex, first(line.shown, room), buffer);
     let globals = put_shown(shown, line.rows, first(line.globals, globals_row), buffer);
     let locals = put_shown(globals, line.rows, first(line.locals, locals_row), buffer);
-    let marked = put_mark(locals, line.marked, buffer);
-    flush(put(marked, b'\n', buffer), buffer)
+    let calls = put_calls(locals, line.calls, words, buffer);
+    let end = put_end(calls, line.marked, buffer);
+    flush(end, buffer)
 }
 
 // HEX where it is asked for, after a space; `-` for no bytes.
@@ -35,12 +37,45 @@ fn put_shown(at: usize, hex: bool, s: &[u8], buffer: &mut [u8]) -> usize {
     put_hex(next, s, buffer)
 }
 
-fn put_mark(at: usize, marked: bool, buffer: &mut [u8]) -> usize {
+// The first n calls that the words tell, three for each.
+fn put_calls(at: usize, n: usize, words: &[u64], buffer: &mut [u8]) -> usize {
+    let mut next = at;
+    let mut i = 0;
+    while i < words.len() && i / 3 < n {
+        next = put_word(next, i % 3 == 0, words[i], buffer);
+        i += 1;
+    }
+    next
+}
+
+// A word after a space: the list as a letter, or a number.
+fn put_word(at: usize, list: bool, word: u64, buffer: &mut [u8]) -> usize {
+    let next = put(at, b' ', buffer);
+    if list {
+        return put(next, letter(word), buffer);
+    }
+    let mut digits = [0u8; 20];
+    let count = io::decimal(word, &mut digits);
+    put_all(next, &digits[..count], buffer)
+}
+
+// Of a local or a global call; `?` for what is neither.
+fn letter(list: u64) -> u8 {
+    match list {
+        0 => b'L',
+        1 => b'G',
+        _ => b'?',
+    }
+}
+
+// ` !` where the line is marked, and the line's end.
+fn put_end(at: usize, marked: bool, buffer: &mut [u8]) -> usize {
     if !marked {
-        return at;
+        return put(at, b'\n', buffer);
     }
     let next = put(at, b' ', buffer);
-    put(next, b'!', buffer)
+    let behind = put(next, b'!', buffer);
+    put(behind, b'\n', buffer)
 }
 
 fn put_hex(at: usize, s: &[u8], buffer: &mut [u8]) -> usize {

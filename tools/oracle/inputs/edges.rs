@@ -404,7 +404,7 @@ fn counts(entries: usize) -> Vec<Given> {
 }
 
 /// The forty subroutines, each calling the next twice.
-fn forty() -> Vec<Given> {
+pub(super) fn forty() -> Vec<Given> {
     let mut entries: Vec<Vec<u8>> = (1..40).map(|i| [FIRST + i, LOCAL].repeat(2)).collect();
     entries.push(vec![0x8C, 0x16]);
     let case = Case::new(&[FIRST, LOCAL, 0x0E], NONE, &list(&entries));

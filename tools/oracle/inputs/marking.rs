@@ -46,7 +46,7 @@ pub fn listed() -> Vec<Marking> {
     asked.extend(of_each_size());
     asked.extend(bad_lists());
     asked.extend(charstrings().iter().chain(&ends()).flat_map(Case::both).map(exact));
-    asked.extend(widths());
+    asked.extend(widths().iter().map(|case| exact(case.ample(PLAIN))));
     asked.extend(depths());
     asked.extend(long());
     each_once(asked)
@@ -245,17 +245,16 @@ fn bad_lists() -> Vec<Marking> {
 }
 
 /// A width or none, by some operators and counts, beside an entry that is entered.
-fn widths() -> Vec<Marking> {
+pub(super) fn widths() -> Vec<Case> {
     let operators = [1, 3, 18, 23, 19, 20, 21, 22, 4, 5, 14];
-    let mut asked = Vec::new();
+    let mut cases = Vec::new();
     for (operator, count) in operators.into_iter().flat_map(|one| [1, 2, 3, 47].map(|n| (one, n))) {
         let mask = if [19, 20].contains(&operator) { count / 16 + 1 } else { 0 };
         let operands: Vec<u8> = (0..count).map(|i| 0xA0 + i as u8).collect();
         let behind = [&vec![0x80; mask][..], &[FIRST, LOCAL, 0x0E]].concat();
-        let case = Case::new(&[&operands[..], &[operator], &behind].concat(), NONE, L);
-        asked.push(exact(case.ample(PLAIN)));
+        cases.push(Case::new(&[&operands[..], &[operator], &behind].concat(), NONE, L));
     }
-    asked
+    cases
 }
 
 /// The deepest call that there is, and one more.

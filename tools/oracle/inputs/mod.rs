@@ -3,6 +3,7 @@
 pub mod case;
 mod damaged;
 mod edges;
+pub mod explaining;
 pub mod flattening;
 pub mod font;
 pub mod index;

@@ -1,7 +1,7 @@
 //! Flattening: 8. The Rust has a word in the plain profile, where both lists are well formed and the answer is not 3, 8 or 11:
 //! the bytes of an accepted one, `CFFError` for 4, 5, 6, 7, 9 and 10, and `Unimplemented` for 12. It is asked once the rule's
 //! run has ended, so that it ends too. Tokens, the width, room, and what is wrong with a list are the rule's alone. What must come
-//! where rows are lent, in 32, stands here too.
+//! where rows are lent, in 32, and where open calls are told, in 64, stands here too.
 
 use super::check_list::check;
 use super::write_charstring_number::rooms;
@@ -14,6 +14,7 @@ use crate::operation::{library, Argument, Call, Fault, Found, Lent, Must, Next, 
 use crate::operation::{Outcome, Owed, Place, BARE, NO_WIDTH};
 use crate::random::Random;
 use crate::record::MOST;
+use crate::rules::explaining::{words, Entering};
 use crate::rules::flattening::{Judged, Lists, Rules, Verdict, Width, RULES};
 use crate::rules::index::{formed, Flaw};
 use crate::rules::marking::{row, row_size, Entered};
@@ -190,28 +191,41 @@ pub fn owed(call: &Call) -> Result<Owed, String> {
         if lacks_row(call, lists) {
             return Ok(Owed::by_rule(Outcome::refused(43)));
         }
-        let Judged { verdict, met, entered } =
-            lists.flattened(charstring, call.strict(), call.budget);
-        let outcome = with_rows(told(call, &verdict), call, lists, &entered);
-        let owed = match by_rust(&verdict).filter(|_| !call.strict()) {
+        let judged = lists.flattened(charstring, call.strict(), call.budget);
+        let outcome = outcome(call, lists, &judged);
+        let owed = match by_rust(&judged.verdict).filter(|_| !call.strict()) {
             Some(rule) => Owed::by_both(outcome, rule, kept.source().flattened(charstring)),
             None => Ok(Owed::by_rule(outcome)),
         };
-        owed.map(|owed| Owed { met: Some(met), ..owed })
+        owed.map(|owed| Owed { met: Some(judged.met), ..owed })
     })
+}
+
+/// What must come of a run.
+fn outcome(call: &Call, lists: Lists, judged: &Judged) -> Outcome {
+    let told = with_rows(told(call, &judged.verdict), call, lists, &judged.entered);
+    with_calls(told, call, &judged.open)
 }
 
 fn told(call: &Call, verdict: &Verdict) -> Outcome {
     match verdict {
         Verdict::Flat(flat, tokens, width) => {
             let values = [flat.len() as i64, (*tokens).into()];
-            match flat.len() <= call.room {
-                true => with_width(Outcome::told(0, values, flat.clone()), *width),
-                false => Outcome::told(13, values, Vec::new()),
+            match shown(call, flat) {
+                Some(bytes) => with_width(Outcome::told(0, values, bytes), *width),
+                None => Outcome::told(13, values, Vec::new()),
             }
         }
         Verdict::BadList(refusal, flaw) => bad_list(call.operation, (*refusal, *flaw)),
         Verdict::Stopped(refusal, tokens) => stopped(*refusal, *tokens),
+    }
+}
+
+/// A flat string as it is written: none where it is longer than the room, and no bytes where no room is lent.
+fn shown(call: &Call, flat: &[u8]) -> Option<Vec<u8>> {
+    match call.operation.shows() {
+        true => (flat.len() <= call.room).then(|| flat.to_vec()),
+        false => Some(Vec::new()),
     }
 }
 
@@ -242,6 +256,15 @@ fn with_rows(told: Outcome, call: &Call, lists: Lists, entered: &Entered) -> Out
     Outcome { rows, ..told }
 }
 
+/// With the calls that are open, where they are told.
+fn with_calls(mut told: Outcome, call: &Call, open: &[Entering]) -> Outcome {
+    if let Some(place) = call.operation.calls {
+        told.values[place] = Some(open.len() as i64);
+        told.words = words(open, call.words);
+    }
+    told
+}
+
 /// The refusal of a run, with its tokens where it tells them.
 fn stopped(refusal: u32, tokens: u32) -> Outcome {
     let mut told = Outcome::refused(refusal);
@@ -253,7 +276,7 @@ fn stopped(refusal: u32, tokens: u32) -> Outcome {
 pub fn ruled(call: &Call, rules: Rules) -> Outcome {
     match judged(call, rules) {
         Ok((lists, _)) if lacks_row(call, lists) => Outcome::refused(43),
-        Ok((lists, judged)) => with_rows(told(call, &judged.verdict), call, lists, &judged.entered),
+        Ok((lists, judged)) => outcome(call, lists, &judged),
         Err(bad) => bad_list(call.operation, bad),
     }
 }
@@ -265,12 +288,15 @@ pub fn judged<'a>(call: &'a Call, rules: Rules) -> Result<(Lists<'a>, Judged), (
     Ok((lists, lists.flattened(charstring, call.strict(), call.budget)))
 }
 
-/// The refusal of a list: why, at the place for reasons, and the entry at the place before it.
+/// The refusal of a list: why, at the place for reasons, and the entry at the place before it. No call is open.
 pub fn bad_list(operation: &Operation, (refusal, flaw): (u32, Flaw)) -> Outcome {
     let mut told = Outcome::refused(refusal);
     if let Some((place, _)) = operation.reasons {
         told.values[place - 1] = flaw.entry().map(i64::from);
         told.values[place] = Some(flaw.reason().into());
+    }
+    if let Some(place) = operation.calls {
+        told.values[place] = Some(0);
     }
     told
 }
@@ -296,7 +322,7 @@ pub fn error(refusal: u32) -> Option<Error> {
 pub fn next<'a>(call: &'a Call<'a>, outcome: &'a Outcome) -> Vec<Next<'a>> {
     let mut next = rooms(call, outcome);
     next.extend(no_room(call, outcome));
-    next.extend(budgets(call, outcome));
+    next.extend(budgets(call, outcome, |_| Must::Refuse(3)));
     next.extend(lists(call, outcome, &[(1, 1), (2, 2)]));
     if outcome.answer == 0 {
         let slices = [&outcome.bytes[..], NONE, NONE].map(Cow::Borrowed);
@@ -329,8 +355,12 @@ pub fn other_profile<'a>(call: &'a Call<'a>, outcome: &Outcome) -> Next<'a> {
     }
 }
 
-/// A budget of just the tokens and any larger one give the same; one less gives 3.
-fn budgets<'a>(call: &'a Call<'a>, outcome: &'a Outcome) -> Vec<Next<'a>> {
+/// A budget of just the tokens and any larger one give the same; one less gives 3, as `less` says of it.
+pub fn budgets<'a>(
+    call: &'a Call<'a>,
+    outcome: &Outcome,
+    less: impl FnOnce(u32) -> Must<'a>,
+) -> Vec<Next<'a>> {
     let Some(tokens) = tokens(call, outcome) else { return Vec::new() };
     let with = |budget: u32, must: Must<'a>, law: &'static str| Next {
         call: Call { budget, ..call.again() },
@@ -342,8 +372,8 @@ fn budgets<'a>(call: &'a Call<'a>, outcome: &'a Outcome) -> Vec<Next<'a>> {
         with(tokens, Must::GiveTheSame, same),
         with(u32::MAX, Must::GiveTheSame, same),
     ];
-    if let Some(less) = tokens.checked_sub(1) {
-        next.push(with(less, Must::Refuse(3), "a budget one too small is not told by 3"));
+    if let Some(budget) = tokens.checked_sub(1) {
+        next.push(with(budget, less(budget), "a budget one too small is not told by 3"));
     }
     next
 }
@@ -411,7 +441,7 @@ fn add_token(lent: &Lent, above: u32) {
     set(lent, 1, tokens + u32::from(tokens > above));
 }
 
-fn refuses_list(answer: u32) -> bool {
+pub fn refuses_list(answer: u32) -> bool {
     answer == 1 || answer == 2
 }
 

@@ -127,7 +127,7 @@ fn next<'a>(call: &'a Call<'a>, outcome: &'a Outcome) -> Vec<Next<'a>> {
         Some(sizes) => {
             next.extend(short_rows(call, sizes));
             next.extend([0, 3].map(|more| other_rows(call, outcome, sizes, more)));
-            next.extend(others_changed(call, outcome));
+            next.extend(entered(call, outcome).and_then(|marked| others_changed(call, marked)));
         }
         None => next.push(Next {
             call: Call { rows: Call::of(call.operation).rows, ..call.again() },
@@ -179,13 +179,17 @@ fn other_rows<'a>(
     Next { call, must, law: "rows that hold other bits, or are longer, give something else" }
 }
 
+/// What the run entered, by the rows where it is accepted.
+fn entered(call: &Call, outcome: &Outcome) -> Option<[Vec<u8>; 2]> {
+    match outcome.answer {
+        43 => None,
+        0 => Some(outcome.rows.clone()),
+        _ => marks(call),
+    }
+}
+
 /// Where all entries that the run did not enter are others, nothing changes.
-fn others_changed<'a>(call: &'a Call<'a>, outcome: &Outcome) -> Option<Next<'a>> {
-    let marked = match outcome.answer {
-        43 => return None,
-        0 => outcome.rows.clone(),
-        _ => marks(call)?,
-    };
+pub fn others_changed<'a>(call: &'a Call<'a>, marked: [Vec<u8>; 2]) -> Option<Next<'a>> {
     let mut other = call.again();
     for (list, row) in LISTS.into_iter().zip(marked) {
         other = other.with_bytes(list, without_others(call.bytes(list)?, &row)?);

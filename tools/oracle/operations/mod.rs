@@ -24,4 +24,5 @@ operations! {
     flatten
     flatten_font
     flatten_marked
+    explain
 }

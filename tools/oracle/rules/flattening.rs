@@ -1,6 +1,7 @@
 //! The rules for flattening (docs/RULES.md), as a reader that follows calls, keeps what it read as a row
 //! of items, and joins them at the end. Nothing here asks the Rust.
 
+use super::explaining::{Entering, Fate};
 use super::index::{self as indexes, Flaw};
 use super::marking::Entered;
 use super::number::{self as numbers, Operand, Place};
@@ -61,20 +62,23 @@ struct Item<'a> {
 /// A flat string that is not joined, so that one of any length can be told.
 pub struct Flat<'a>(Vec<Item<'a>>);
 
-/// The run's first refusal or the flat string, the tokens begun, the width so far, what the run met, and the entries that it marks.
+/// The run's first refusal or the flat string, the tokens begun, the width so far, what the run met, the entries that it marks, and
+/// the calls that are open where it was refused, the outermost first.
 pub struct Ran<'a> {
     pub flat: Result<Flat<'a>, Refusal>,
     pub tokens: u32,
     pub width: Width,
     pub met: Met,
     pub entered: Entered,
+    pub open: Vec<Entering>,
 }
 
-/// The verdict on a run, what it met, and the entries that it marks.
+/// The verdict on a run, what it met, the entries that it marks, and the calls that are open.
 pub struct Judged {
     pub verdict: Verdict,
     pub met: Met,
     pub entered: Entered,
+    pub open: Vec<Entering>,
 }
 
 /// What decides about the operands that wait where a run comes to a mask.
@@ -169,9 +173,12 @@ pub struct Rules {
     pub at_operator: fn(AtOperator) -> Option<Width>,
     /// Whether an entry is marked.
     pub at_entry: fn(AtEntry) -> bool,
+    /// Whether a call is open in the end.
+    pub open: fn(Fate) -> bool,
 }
 
-pub const RULES: Rules = Rules { at_mask, at_end, at_operator, at_entry: |_| true };
+pub const RULES: Rules =
+    Rules { at_mask, at_end, at_operator, at_entry: |_| true, open: |fate| fate == Fate::Open };
 
 /// The operators that may have a width below their operands, and of how many operands one is that.
 const WITH_WIDTH: [(&[u8], fn(usize) -> bool); 4] = [
@@ -255,6 +262,8 @@ struct Run<'a> {
     entered: Entered,
     /// Whether the string that is run is a global's.
     in_global: bool,
+    /// The calls that lead to it, the outermost first.
+    open: Vec<Entering>,
 }
 
 /// 1, 2, then the run's first refusal; 16 is that of its end.
@@ -308,7 +317,7 @@ impl<'a> Lists<'a> {
             Ok(flat) => Verdict::Flat(flat.joined(), ran.tokens, ran.width),
             Err(refusal) => Verdict::Stopped(refusal, ran.tokens),
         };
-        Judged { verdict, met: ran.met, entered: ran.entered }
+        Judged { verdict, met: ran.met, entered: ran.entered, open: ran.open }
     }
 
     pub fn run(self, charstring: &'a [u8], strict: bool, budget: u32) -> Ran<'a> {
@@ -325,10 +334,11 @@ impl<'a> Lists<'a> {
             met: Met::default(),
             entered: Entered::default(),
             in_global: false,
+            open: Vec::new(),
         };
         let flat = run.string(charstring, 1).map(|_| Flat(run.flat));
-        let Run { tokens, width, met, entered, .. } = run;
-        Ran { flat, tokens, width: width.flatten(), met, entered }
+        let Run { tokens, width, met, entered, open, .. } = run;
+        Ran { flat, tokens, width: width.flatten(), met, entered, open }
     }
 }
 
@@ -371,8 +381,9 @@ impl<'a> Run<'a> {
                 12 => left = self.escaped(&left[1..])?,
                 19 | 20 => left = self.mask(first, &left[1..])?,
                 10 | 29 => {
+                    let at = bytes.len() - left.len();
                     left = &left[1..];
-                    if self.call(first == 29, depth)? == Ending::Everything {
+                    if self.call(first == 29, at, depth)? == Ending::Everything {
                         return Ok(None);
                     }
                 }
@@ -474,17 +485,19 @@ impl<'a> Run<'a> {
         Ok(after)
     }
 
-    /// 7, 9, 10, 8, and then what the entry gives.
-    fn call(&mut self, global: bool, depth: u32) -> Result<Ending, Refusal> {
+    /// 7, 9, 10, 8, and then what the entry gives. The operator stands at a place of its string.
+    fn call(&mut self, global: bool, at: usize, depth: u32) -> Result<Ending, Refusal> {
         let list = if global { self.lists.globals } else { self.lists.locals };
         let deepest = if self.strict { 11 } else { 64 };
         let (operand, token) = self.stack.pop().ok_or(7u32)?;
         let callee = numbers::callee(operand, self.strict, list.count)?;
+        let outer = self.open.len();
+        self.open.push(Entering { global, entry: callee, at });
         if depth == deepest {
-            return Err(10);
+            return self.leave(outer, Fate::Refused, Err(10));
         }
         if self.flat.pop().is_none_or(|last| last.token != token) {
-            return Err(8);
+            return self.leave(outer, Fate::Refused, Err(8));
         }
         self.enter(global, callee, depth + 1);
         self.met.call(global, operand, depth + 1);
@@ -492,6 +505,24 @@ impl<'a> Run<'a> {
         let caller = std::mem::replace(&mut self.in_global, global);
         let ending = self.string(&list.bytes[entry.place..entry.place + entry.length], depth + 1);
         self.in_global = caller;
+        let fate = match ending {
+            Err(_) => Fate::Open,
+            Ok(Ending::Everything) => Fate::Ended,
+            Ok(_) => Fate::Back,
+        };
+        self.leave(outer, fate, ending)
+    }
+
+    /// What comes of a call, which `outer` others lead to.
+    fn leave(
+        &mut self,
+        outer: usize,
+        fate: Fate,
+        ending: Result<Ending, Refusal>,
+    ) -> Result<Ending, Refusal> {
+        if !(self.lists.rules.open)(fate) {
+            self.open.remove(outer);
+        }
         ending
     }
 
