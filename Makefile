@@ -12,10 +12,10 @@ kit:
 test: kit
 	@tools/test $(or $(SECONDS),60)
 
-# the program `flatten`, proved and built, on three font parts
+# the programs `flatten` and `why`, proved and built, on four font parts
 run: kit
-	@echo 'make run: proves and builds the program flatten, which takes some minutes the first time, and then runs it on three font parts.'
-	@rt check flatten
+	@echo 'make run: proves and builds the programs flatten and why, which takes some minutes the first time, and then runs them on four font parts.'
+	@rt check flatten why
 	@echo
 	@echo 'examples/squares.part, a glyph that calls one subroutine twice: 0, the length, the tokens run and the width, - for none; then its flat string.'
 	@tools/run flatten examples/squares.part
@@ -25,6 +25,14 @@ run: kit
 	@echo
 	@echo 'examples/forty.part, forty subroutines that each call the next twice: refused once the budget is spent, for the last would run 549755813888 times.'
 	@tools/run flatten examples/forty.part
+	@echo
+	@echo 'The same, to why: the refusal and its token, and a line for each call that was open, the outermost first, of which here three; and in words, cut short.'
+	@tools/run why examples/forty.part | sed 4q
+	@tools/run why --words examples/forty.part | cut -c 1-120
+	@echo
+	@echo 'examples/absent.part, to why: the subroutine that is not there is asked for by local 1, which global 0 calls at its byte 1.'
+	@tools/run why examples/absent.part
+	@tools/run why --words examples/absent.part
 
 # what a user links, under target/lib: the proved archive, the header and a pkg-config file
 lib: kit

@@ -1,17 +1,14 @@
--- A font part (RULES, "Font parts"): three lengths of four bytes, the most significant first, and then the charstring, or a whole font's CharStrings
--- INDEX, the global list and the local list. What the program makes of any bytes.
-use Prim.Native.Nat.{ℕ, _+_}
-use mathlib.Core.Bool.{Bool, true, false, cond}
+-- What the program makes of any bytes: of a font part (RULES, "Font parts"), which the crate `part` cuts, and of what is none.
+use Prim.Native.Nat.{ℕ}
+use mathlib.Core.Bool.{Bool, true, false}
 use mathlib.Core.List.{List}
-use lib.ListN.{length, take, drop}
-use lib.Dec.{leb, eqb}
 use Rattle.number.specs.Answer.{Answer, Outcome, leaving}
-use Rattle.number.specs.BigEndian.{beAt}
 use Rattle.reading.specs.Rules.{Rules}
 use Rattle.reading.specs.Answers.{Flattening, flattened, flattening}
 use Rattle.font.specs.Font.{fontFlattened, flattenFont}
-use Rattle.flatten.specs.declared.part.Reply.{Reply}
-use Rattle.flatten.specs.declared.part.Reply.the-variants.{Flattened, Font, Headless, Says}
+use Rattle.part.specs.Part.{Parts, headless as cut-headless, says as cut-says, parts, partsOf}
+use Rattle.flatten.specs.declared.flattening.Reply.{Reply}
+use Rattle.flatten.specs.declared.flattening.Reply.the-variants.{Flattened, Font, Headless, Says}
 
 -- What is told of the bytes: an answer of flattening, a charstring's or a whole font's; no font part, for the lengths are not all there; or none,
 -- for by its lengths it would have so many bytes.
@@ -29,19 +26,15 @@ unfoldable pub toldOf : Bool → Rules → ℕ → List ℕ → List ℕ → Lis
 toldOf false rules budget room cs globals locals = telling answered (flattening rules cs globals locals budget room)
 toldOf true rules budget room charstrings globals locals = telling answeredFont (flattenFont rules charstrings globals locals budget room)
 
--- the three parts, where their lengths take up all the bytes
-unfoldable pub cut : (List ℕ → List ℕ → List ℕ → Outcome Told) → List ℕ → List ℕ → ℕ → ℕ → ℕ → Outcome Told
-cut told s room a b c =
-    cond (eqb (12 + a + b + c) (length s))
-    (told (take a (drop 12 s)) (take b (drop (12 + a) s)) (take c (drop (12 + a + b) s)))
-    (leaving (says (12 + a + b + c)) room)
+-- what cut bytes come to, and what is left in the room, by what is told of three parts
+unfoldable pub partBy : (List ℕ → List ℕ → List ℕ → Outcome Told) → List ℕ → Parts → Outcome Told
+partBy told room cut-headless = leaving headless room
+partBy told room (cut-says n) = leaving (says n) room
+partBy told room (parts strings globals locals) = told strings globals locals
 
--- what the bytes come to, and what is left in the room, by what is told of three parts
-unfoldable pub partOf : (List ℕ → List ℕ → List ℕ → Outcome Told) → List ℕ → List ℕ → Outcome Told
-partOf told s room =
-    cond (leb 12 (length s))
-    (cut told s room (beAt s 0 4) (beAt s 4 4) (beAt s 8 4))
-    (leaving headless room)
+-- and what any bytes come to
+abbrev pub partOf : (List ℕ → List ℕ → List ℕ → Outcome Told) → List ℕ → List ℕ → Outcome Told
+partOf told s room = partBy told room (partsOf s)
 
 abbrev pub toldBy : Reply → Told
 toldBy (Flattened f) = answered (flattened f)

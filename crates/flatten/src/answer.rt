@@ -1,15 +1,22 @@
 // What came of a font part: the answer's number and its values, and a sentence.
+use crate::flattening::Reply;
 use crate::hex::write_hex;
-use crate::part::Reply;
 use font::FontFlattened;
-use index::Absence;
 use index::Flaw;
 use libc::STDERR_FILENO;
-use libc::STDOUT_FILENO;
 use number::Operand;
+use part::count;
+use part::say;
+use part::say_bad;
+use part::say_bad_globals;
+use part::say_bad_locals;
+use part::say_short;
+use part::say_stop;
+use part::say_value;
+use part::tell_headless;
+use part::tell_length;
 use reading::Advance;
 use reading::Flattened;
-use reading::Refusal;
 use reading::Stopped;
 
 // Tells a reply, over the room that it was lent; `size` is how many bytes came in.
@@ -18,26 +25,16 @@ pub(crate) fn tell(reply: Reply, size: usize, room: &[u8]) {
         Reply::Flattened(flattened) => tell_flattened(flattened, room),
         Reply::Font(flattened) => tell_font(flattened, room),
         Reply::Headless => {
-            tell_form(size);
-            io::write_all(STDERR_FILENO, b", fewer than the three lengths take");
+            io::write_all(STDERR_FILENO, b"flatten: ");
+            tell_headless(STDERR_FILENO, size);
             tell_expected();
         }
         Reply::Says(n) => {
-            tell_form(size);
-            io::write_all(STDERR_FILENO, b", and by its lengths it would have ");
-            io::print_decimal(STDERR_FILENO, n as u64);
+            io::write_all(STDERR_FILENO, b"flatten: ");
+            tell_length(STDERR_FILENO, size, n);
             tell_expected();
         }
     }
-}
-
-fn tell_form(size: usize) {
-    io::write_all(
-        STDERR_FILENO,
-        b"flatten: the input is no font part: it has ",
-    );
-    io::print_decimal(STDERR_FILENO, size as u64);
-    io::write_all(STDERR_FILENO, b" bytes");
 }
 
 fn tell_expected() {
@@ -78,7 +75,7 @@ fn tell_font(flattened: FontFlattened, room: &[u8]) {
         FontFlattened::Written(n) => tell_written(n, room),
         FontFlattened::BadGlobals(flaw) => tell_bad_globals(flaw),
         FontFlattened::BadLocals(flaw) => tell_bad_locals(flaw),
-        FontFlattened::BadCharstrings(flaw) => tell_bad(flaw, b": the CharStrings INDEX's "),
+        FontFlattened::BadCharstrings(flaw) => tell_bad_charstrings(flaw),
         FontFlattened::Refused(glyph, why) => tell_glyph(glyph, why),
         FontFlattened::TooLong => say(
             b": an INDEX to be written has a last offset over 4294967295\n",
@@ -122,54 +119,41 @@ fn tell_bytes(n: usize, room: &[u8]) {
 }
 
 fn tell_bad_globals(flaw: Flaw) {
-    tell_bad(flaw, b": the global list's ");
+    say_flaw(flaw);
+    say_bad_globals(flaw);
 }
 
 fn tell_bad_locals(flaw: Flaw) {
-    tell_bad(flaw, b": the local list's ");
+    say_flaw(flaw);
+    say_bad_locals(flaw);
 }
 
-// The entry and the reason, or the reason alone; whose they are, and what is wrong with the list.
-fn tell_bad(flaw: Flaw, whose: &[u8]) {
+fn tell_bad_charstrings(flaw: Flaw) {
+    say_flaw(flaw);
+    say_bad(flaw, b": the CharStrings INDEX's ");
+}
+
+// The entry and the reason, or the reason alone.
+fn say_flaw(flaw: Flaw) {
     if let Flaw::Entry(i, _) = flaw {
         say_value(i as u64);
     }
     say_value(flaw.number() as u64);
-    say(whose);
-    match flaw {
-        Flaw::Lacking => say(b"bytes end too soon\n"),
-        Flaw::BadSize => say(b"offset size is not 1 to 4\n"),
-        Flaw::Entry(i, why) => tell_absence(i, why),
-    }
-}
-
-// The entry, and why it is absent. It is never past the count, for each that is looked at is below it.
-fn tell_absence(i: u32, why: Absence) {
-    say(b"entry ");
-    count(i as u64);
-    match why {
-        Absence::PastCount => say(b": it is past the count\n"),
-        Absence::ZeroOffset => say(b": an offset, or the list's last, is 0\n"),
-        Absence::Descending => say(b": its offsets descend\n"),
-        Absence::PastData => say(b": its offsets pass the data\n"),
-    }
 }
 
 fn tell_short(n: usize, tokens: u32) {
     say_value(n as u64);
     say_value(tokens as u64);
-    say_short(n);
+    say_room(n);
 }
 
 fn tell_short_font(n: usize) {
     say_value(n as u64);
-    say_short(n);
+    say_room(n);
 }
 
-fn say_short(n: usize) {
-    say(b": the result is longer than the room for it: it has ");
-    count(n as u64);
-    say(b" bytes, and the room 1048576\n");
+fn say_room(n: usize) {
+    say_short(n, b" bytes, and the room 1048576\n");
 }
 
 // The tokens that come with a run's refusal, and the sentence.
@@ -193,57 +177,6 @@ fn say_tokens(why: Stopped) {
     }
 }
 
-// The sentence, and behind it the tokens that come with the refusal.
-fn say_stop(why: Stopped) {
-    match why {
-        Stopped::At(refusal, tokens) => {
-            say_refusal(refusal);
-            count(tokens as u64);
-        }
-        Stopped::Alone(refusal) => say_refusal(refusal),
-    }
-    say(b"\n");
-}
-
-fn say_refusal(refusal: Refusal) {
-    match refusal {
-        Refusal::BudgetSpent => say(b": the budget is spent after token "),
-        Refusal::BytesLacking => say(b": a number, an operator or a mask lacks bytes, at token "),
-        Refusal::TooManyOperands => say(b": more than 48 operands wait, at token "),
-        Refusal::UnknownOperator => say(
-            b": a byte starts no number, or an operator is not supported, at token ",
-        ),
-        Refusal::NoIndex => say(b": a call has no index, or one that is not whole, at token "),
-        Refusal::IndexNotLast => say(
-            b": a call's index does not stand last in the flat string, at token ",
-        ),
-        Refusal::NoEntry => say(b": a call names a subroutine that is not there, at token "),
-        Refusal::TooDeep => say(
-            b": calls nest over 64 strings deep in plain, over 11 in strict, at token ",
-        ),
-        Refusal::TooManyHints => say(
-            b": there are over 65535 hints in plain, over 96 in strict, at token ",
-        ),
-        Refusal::Composite => say(
-            b": endchar has four operands or more, for a glyph made of two others, at token ",
-        ),
-        Refusal::OperandsAtMask => say(
-            b": operands wait at a mask whose length is fixed, in strict",
-        ),
-        Refusal::NoEndchar => say(b": the charstring comes to its end without endchar, in strict"),
-    }
-}
-
-fn say(words: &[u8]) {
-    io::write_all(STDOUT_FILENO, words);
-}
-
-// A space and a number.
-fn say_value(n: u64) {
-    say(b" ");
-    count(n);
-}
-
 // From 2^31 on the 32 bits of a number are those of a negative one.
 fn say_signed(z: i32) {
     let bits = number::bits_of(z);
@@ -253,8 +186,4 @@ fn say_signed(z: i32) {
         say(b" -");
         count(4294967296 - bits as u64);
     }
-}
-
-fn count(n: u64) {
-    io::print_decimal(STDOUT_FILENO, n);
 }

@@ -4,8 +4,8 @@
 // status to say it by.
 mod answer;
 mod arguments;
+mod flattening;
 mod hex;
-mod part;
 
 use crate::answer::tell;
 use crate::answer::tell_long;
@@ -13,7 +13,7 @@ use crate::arguments::Arguments;
 use crate::arguments::Asked;
 use crate::arguments::read_arguments;
 use crate::arguments::tell_wrong;
-use crate::part::flatten_part;
+use crate::flattening::flatten_part;
 use libc::STDERR_FILENO;
 use libc::STDIN_FILENO;
 ghost use mathlib.Core.Path.{_≡_};

@@ -1,9 +1,9 @@
-// A font part: three lengths of four bytes, the highest byte first, and then the charstring, or a
-// whole font's CharStrings INDEX, the global list and the local list, which are so long.
+// What a font part, which the crate `part` cuts, is flattened to.
 use charstring::flatten;
 use font::FontFlattened;
 use font::flatten_font;
-use number::Big;
+use part::Cut;
+use part::cut_part;
 use reading::Flattened;
 use reading::Profile;
 ghost use mathlib.Core.Path.{_≡_};
@@ -33,30 +33,19 @@ pub(crate) fn flatten_part(
     ensures { λ r. ⌜ leaving (toldBy r) (now (room .exit))
         ≡ partOf (toldOf whole (rulesOf profile) budget (now (room .entry))) (now (part .entry)) (now (room .entry)) ⌝ }
 {
-    let Big::Value(charstring) = number::read_be(part, 0, 4) else {
-        return Reply::Headless;
-    };
-    let Big::Value(global) = number::read_be(part, 4, 4) else {
-        return Reply::Headless;
-    };
-    let Big::Value(local) = number::read_be(part, 8, 4) else {
-        return Reply::Headless;
-    };
-    let globals = 12 + charstring as usize;
-    let locals = globals + global as usize;
-    let end = locals + local as usize;
-    if end != part.len() {
-        return Reply::Says(end);
+    match cut_part(part) {
+        Cut::Headless => Reply::Headless,
+        Cut::Says(n) => Reply::Says(n),
+        Cut::Parts(globals, locals) => flatten_cut(
+            &part[12..globals],
+            &part[globals..locals],
+            &part[locals..],
+            whole,
+            profile,
+            budget,
+            room,
+        ),
     }
-    flatten_cut(
-        &part[12..globals],
-        &part[globals..locals],
-        &part[locals..end],
-        whole,
-        profile,
-        budget,
-        room,
-    )
 }
 
 // The same of the three parts, cut.

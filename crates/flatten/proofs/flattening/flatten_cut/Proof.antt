@@ -1,8 +1,8 @@
 -- `flatten_cut` tells what its definition says of three parts. Assumes nothing.
 use borrow.Author.Needs.{needs}
 use Rattle.flatten.specs.PartLaws.{told-glyph, told-font}
-use Rattle.flatten.proofs.part.flatten_cut.Statement.{statement}
-use Rattle.flatten.proofs.part.flatten_cut.Tie as tie
+use Rattle.flatten.proofs.flattening.flatten_cut.Statement.{statement}
+use Rattle.flatten.proofs.flattening.flatten_cut.Tie as tie
 
 flatten-font-requires : tie.Need-flatten-font-requires
 flatten-font-requires c κs = search needs
