@@ -101,7 +101,15 @@ fn answer_next(
 ) -> bool {
     match next_record(buffer) {
         Next::Record(n) => {
-            answer_record(first(n, buffer), lengths, room, globals_row, locals_row, words, text)
+            answer_record(
+                first(n, buffer),
+                lengths,
+                room,
+                globals_row,
+                locals_row,
+                words,
+                text,
+            )
         }
         Next::Broken => {
             write_line(Line::unasked(), room, globals_row, locals_row, words, text);

@@ -91,7 +91,9 @@ pub(crate) fn run<'a>(
                                 return r;
                             }
                             Ending::Refused(_) => {
-                                note(stack, by.rules, levels, which, k, next - 1);
+                                let operands = by.rules.operands;
+                                let around = by.rules.levels - levels;
+                                note(&mut stack[operands..], around, which, k, next - 1);
                                 return r;
                             }
                         }

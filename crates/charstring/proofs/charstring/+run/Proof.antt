@@ -2,12 +2,16 @@ use mathlib.Core.Path.{_≡_, refl, sym, ap, subst, _∙_}
 use Prim.Native.Nat.{ℕ, _-_, _≤_, _<_}
 use denote.Ref.{now}
 use native.Mathlib.Omega.{arith}
+use mathlib.Core.List.{List}
 use lib.ListN.{length, getD}
 use borrow.Author.Needs.{needs}
 use Rattle.number.specs.Number.{charstringRows}
 use Rattle.number.specs.Written.{spelling}
 use Rattle.number.specs.declared.Operand.{Operand}
 use Rattle.charstring.specs.Words.{unpackOf, Inside}
+use Rattle.charstring.specs.Notes.{noteAt}
+use Rattle.charstring.specs.NotesLaws.{behind-put}
+use Rattle.charstring.specs.MarkedLaws.{rest-part}
 use Rattle.charstring.specs.Run.{behind}
 use Rattle.charstring.specs.StretchLaws.{few-tokens}
 use Rattle.charstring.specs.LoopLaws.{Stands, Gives, begins, Turn, roomy-now, stands-on, arm-done, Before, before, Numbers, safe, Aims, arm-no}
@@ -379,23 +383,39 @@ run-enum-told-3 t c = search needs
 
 -- behind a note
 abbrev run-of : (t : ℕ) → Of run-lts.After-slice-known11 t → Of run-lts.After-run t
-run-of t c = c .before .before .before .before .before .before .before .before .before .before .before .before
+run-of t c = c .before .before .before .before .before .before .before .before .before .before .before .before .before
+
+-- the operands fit the stack as an entry's run left it
+fits : (t : ℕ) (c : Of run-lts.After-run t) → start t c .args .by .rules .operands ≤ length (c .run .last .1 .1 .1 .1 .1 .0)
+fits t c = let e = still-stack t c in let k = start t c .pre .1 .0 .roomy .operands-fit in omega arith
+
+run-sub-around : (t : ℕ) → Of run-lts.Need-sub-around t
+run-sub-around t c = start t (c .before .before .before .before .before .before .before .before .before) .pre .1 .1 .1
+
+run-mul-note : (t : ℕ) → Of run-lts.Need-mul-note t
+run-mul-note t c =
+    let at-run = c .before .before .before .before .before .before .before .before .before in
+    let few = start t at-run .pre .1 .0 .roomy in omega (arith, few .operands-fit, few .few-words)
 
 run-sub-note : (t : ℕ) → Of run-lts.Need-sub-note t
-run-sub-note t c =
-    let at-run = c .before .before .before .before .before .before .before .before .before in
+run-sub-note t c = fits t (c .before .before .before .before .before .before .before .before .before)
+
+run-part-note-start : (t : ℕ) → Of run-lts.Need-part-note-start t
+run-part-note-start t c = fits t (c .before .before .before .before .before .before .before .before .before)
+
+run-part-note-end : (t : ℕ) → Of run-lts.Need-part-note-end t
+run-part-note-end t c = search needs
+
+run-sub-note-2 : (t : ℕ) → Of run-lts.Need-sub-note-2 t
+run-sub-note-2 t c =
+    let at-run = c .before .before .before .before .before .before .before .before .before .before in
     let n = numbers t (call-of t (at-target t at-run)) in omega (arith, n .ahead)
 
 run-note-requires : (t : ℕ) → Of run-lts.Need-note-requires t
-run-note-requires t c κs =
-    let at-run = c .before .before .before .before .before .before .before .before .before in
-    let pre = start t at-run .pre in
-    let e = still-stack t at-run in
-    let fits = pre .1 .0 .roomy .operands-fit in
-    (omega arith, pre .1 .1 .1)
+run-note-requires t c κs = tt
 
 run-same-length-10 : (t : ℕ) → Of run-lts.Need-same-length-10 t
-run-same-length-10 t c = c .before .before .note .kept .0 ∙ still-stack t (run-of t c)
+run-same-length-10 t c = c .before .stack3 .given .1 ∙ still-stack t (run-of t c)
 
 run-same-length-11 : (t : ℕ) → Of run-lts.Need-same-length-11 t
 run-same-length-11 t c = still-out t (run-of t c)
@@ -406,7 +426,14 @@ run-same-length-12 t c = still-marks t (run-of t c)
 run-returns-4 : (t : ℕ) → Of run-lts.Need-returns-4 t
 run-returns-4 t c =
     let at = run-of t c in
-    came t at .refused _ (c .before .before .before .before .enum-told3 .given .1) (start t at .pre .1 .1 .1) _ (c .before .before .note .ensures)
+    let ops = start t at .args .by .rules .operands in
+    let stack = at .run .last .1 .1 .1 .1 .1 .0 in
+    let target = at-target t at in
+    let call = call-of t target .stop2 .given .0 in
+    came t at .refused _ (c .before .before .before .before .before .enum-told3 .given .1) (start t at .pre .1 .1 .1) _
+    (behind-put ops stack _ (fits t at) ∙ c .before .before .note .ensures
+    ∙ ap (λ (l : List ℕ). noteAt l (start t at .args .by .rules .levels - start t at .args .levels) (call .1 .0) (target .target2 .given .0 .0) (call .0 - 1))
+    (rest-part ops stack))
 
 pub +run-spec : {M : Type 1} → statement M
 +run-spec = close μ-run λ t. run-lts.spec (callees t)
@@ -452,7 +479,12 @@ pub +run-spec : {M : Type 1} → statement M
     (run-same-length-9 t)
     (run-returns-3 t)
     (run-enum-told-3 t)
+    (run-sub-around t)
+    (run-mul-note t)
     (run-sub-note t)
+    (run-part-note-start t)
+    (run-part-note-end t)
+    (run-sub-note-2 t)
     (run-note-requires t)
     (run-same-length-10 t)
     (run-same-length-11 t)
