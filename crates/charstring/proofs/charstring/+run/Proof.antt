@@ -426,13 +426,14 @@ run-same-length-12 t c = still-marks t (run-of t c)
 run-returns-4 : (t : ℕ) → Of run-lts.Need-returns-4 t
 run-returns-4 t c =
     let at = run-of t c in
-    let ops = start t at .args .by .rules .operands in
+    let args = start t at .args in
+    let ops = args .by .rules .operands in
     let stack = at .run .last .1 .1 .1 .1 .1 .0 in
     let target = at-target t at in
     let call = call-of t target .stop2 .given .0 in
     came t at .refused _ (c .before .before .before .before .before .enum-told3 .given .1) (start t at .pre .1 .1 .1) _
     (behind-put ops stack _ (fits t at) ∙ c .before .before .note .ensures
-    ∙ ap (λ (l : List ℕ). noteAt l (start t at .args .by .rules .levels - start t at .args .levels) (call .1 .0) (target .target2 .given .0 .0) (call .0 - 1))
+    ∙ ap (λ (l : List ℕ). noteAt l (args .by .rules .levels - args .levels) (call .1 .0) (target .target2 .given .0 .0) (call .0 - 1))
     (rest-part ops stack))
 
 pub +run-spec : {M : Type 1} → statement M
