@@ -1,15 +1,14 @@
 -- What a refused run notes is its open calls. Assumes nothing.
 use mathlib.Core.Path.{_≡_, refl, sym, ap, subst, _∙_}
 use mathlib.Core.Bool.{Bool, true, false, cond}
-use mathlib.Core.List.{List, [], _∷_, _++_, append-nil, append-assoc, reverseAux-append}
+use mathlib.Core.List.{List, [], _∷_, _++_, append-assoc, reverseAux-append}
 use Prim.Native.Nat.{ℕ, zero, suc, _+_, _-_, _*_, _≤_, _<_, zero-le}
-use native.Mathlib.Nat.{le-refl, le-of-eq}
+use native.Mathlib.Nat.{le-of-eq}
 use native.Mathlib.Omega.{arith}
 use lib.Dec.{ltb}
-use lib.ListN.{length, take, drop, replicate, length-drop, take-append-drop, length-replicate, length-reverse, drop-of-length-le}
-use lib.Seq.{sets, length-sets, sets-eq, length-take-le, take-append-le, drop-append-seam, take-take}
-use borrow.Author.Tests.{lt-ltb}
-use borrow.Rule.Slice.PartMut.{postOf, putMid, post-is}
+use lib.ListN.{length, set, take, drop, replicate, length-drop, take-append-drop, length-replicate, length-reverse}
+use lib.Seq.{sets, length-sets, sets-eq, length-take-le, take-append-le, drop-append-seam, take-take, drop-set-add}
+use borrow.Author.Tests.{lt-ltb, le-ltb}
 use Rattle.reading.specs.Rules.{among, byteKind, escapedKind, kindBy}
 use Rattle.reading.specs.Tokens.{operator, token, cut}
 use Rattle.reading.specs.CutLaws.{cut-one}
@@ -50,12 +49,33 @@ pub around-others : (newer : List Entering) (c : Entering) (k : ℕ) → openBy 
 unfolding openBy
 around-others newer c k = reverseAux-append newer (c ∷ []) []
 
--- what is put back behind the operands stands there
-pub behind-put : (a : ℕ) (xs ys : List ℕ) → a ≤ length xs → drop a (putMid a (length xs - a) xs ys) ≡ ys
-behind-put a xs ys h =
-    let rest = postOf a (length xs - a) xs in
-    ap (λ (n : ℕ). drop n (take a xs ++ (ys ++ rest))) (sym (length-take-le a xs h)) ∙ drop-append-seam (take a xs) (ys ++ rest)
-    ∙ ap (λ (l : List ℕ). ys ++ l) (post-is a (length xs) xs h ∙ drop-of-length-le xs (le-refl (length xs))) ∙ append-nil ys
+-- ---- a note, as the code stores it behind the operands
+
+module _ (stack : List ℕ) (ops around entry at : ℕ) (w : Which) where
+  abbrev i : ℕ
+  i = 3 * around
+
+  abbrev words : List ℕ
+  words = drop ops stack
+
+  pub note-inside : (code : ℕ) → code ≡ codeOf w → ops + i + 2 < length stack
+      → drop ops (set (set (set stack (ops + i) code) (ops + i + 1) entry) (ops + i + 2) at) ≡ noteAt words around w entry at
+  unfolding storeAt
+  note-inside code e h =
+      ap (λ (n : ℕ). drop ops (set (set (set stack (ops + i) code) (ops + i + 1) entry) n at)) (let q : ops + i + 2 ≡ ops + suc (suc i) = omega arith in q)
+      ∙ drop-set-add ops _ (suc (suc i)) at
+      ∙ ap (λ (n : ℕ). set (drop ops (set (set stack (ops + i) code) n entry)) (suc (suc i)) at) (let q : ops + i + 1 ≡ ops + suc i = omega arith in q)
+      ∙ ap (λ (l : List ℕ). set l (suc (suc i)) at) (drop-set-add ops _ (suc i) entry)
+      ∙ ap (λ (l : List ℕ). set (set l (suc i) entry) (suc (suc i)) at) (drop-set-add ops stack i code)
+      ∙ ap (λ (n : ℕ). set (set (set words i n) (suc i) entry) (suc (suc i)) at) e
+      ∙ ap (λ (b : Bool). cond b (sets words i (codeOf w ∷ entry ∷ at ∷ [])) words)
+      (sym (lt-ltb (i + 2) (length words) (omega (arith, length-drop ops stack))))
+
+  pub note-outside : length stack ≤ ops + i + 2 → words ≡ noteAt words around w entry at
+  unfolding storeAt
+  note-outside h =
+      ap (λ (b : Bool). cond b (sets words i (codeOf w ∷ entry ∷ at ∷ [])) words)
+      (sym (le-ltb (i + 2) (length words) (omega (arith, length-drop ops stack))))
 
 -- ---- notes that all fit
 

@@ -2,7 +2,7 @@
 use crate::argstack::unpack;
 use crate::look::Limits;
 use crate::marks::mark;
-use crate::notes::note;
+use crate::notes::code_of;
 use crate::state::State;
 use crate::state::enter;
 use crate::store::size_of;
@@ -19,7 +19,8 @@ ghost use Rattle.reading.specs.Lists.{chosen};
 ghost use Rattle.charstring.specs.Run.{chosenCount, Setting, Sound, RunsTo};
 
 // Runs a charstring, and the entries that it calls, from a state, and marks the entries. Where the run is
-// refused, each call that is open is noted on the way out of it, behind the operands of the stack.
+// refused, each call that is open is noted on the way out of it, behind the operands of the stack: its
+// list, its entry and its place, where there is room for all three. So a run that is accepted notes nothing.
 pub(crate) fn run<'a>(
     cs: &'a [u8],
     globals: &'a [u8],
@@ -91,9 +92,14 @@ pub(crate) fn run<'a>(
                                 return r;
                             }
                             Ending::Refused(_) => {
-                                let operands = by.rules.operands;
-                                let around = by.rules.levels - levels;
-                                note(&mut stack[operands..], around, which, k, next - 1);
+                                let at = by.rules.operands
+                                    + 3 * (by.rules.levels - levels) as usize;
+                                if at + 2 < stack.len() {
+                                    stack[at] = code_of(which);
+                                    stack[at + 1] = k as u64;
+                                    stack[at + 2] = (next - 1) as u64;
+                                    return r;
+                                }
                                 return r;
                             }
                         }

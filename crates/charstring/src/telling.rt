@@ -24,7 +24,7 @@ pub(crate) fn tell_calls(noted: &[u64], words: &mut [u64]) -> usize
 }
 
 // Stores a call's three words from i on, where there is room for all of them.
-pub(crate) fn store_call(words: &mut [u64], i: usize, list: u64, entry: u64, at: u64)
+fn store_call(words: &mut [u64], i: usize, list: u64, entry: u64, at: u64)
     requires { ⌜ i + 2 < 2 ^ 64 ⌝ }
     ensures { λ _. ⌜ now (words .exit) ≡ storeAt (now (words .entry)) i list entry at ⌝ }
 {

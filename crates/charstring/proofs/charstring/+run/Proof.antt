@@ -1,17 +1,14 @@
 use mathlib.Core.Path.{_≡_, refl, sym, ap, subst, _∙_}
-use Prim.Native.Nat.{ℕ, _-_, _≤_, _<_}
+use Prim.Native.Nat.{ℕ, _+_, _-_, _*_, _≤_, _<_}
 use denote.Ref.{now}
 use native.Mathlib.Omega.{arith}
-use mathlib.Core.List.{List}
-use lib.ListN.{length, getD}
+use lib.ListN.{length, getD, set, length-set}
 use borrow.Author.Needs.{needs}
 use Rattle.number.specs.Number.{charstringRows}
 use Rattle.number.specs.Written.{spelling}
 use Rattle.number.specs.declared.Operand.{Operand}
 use Rattle.charstring.specs.Words.{unpackOf, Inside}
-use Rattle.charstring.specs.Notes.{noteAt}
-use Rattle.charstring.specs.NotesLaws.{behind-put}
-use Rattle.charstring.specs.MarkedLaws.{rest-part}
+use Rattle.charstring.specs.NotesLaws.{note-inside, note-outside}
 use Rattle.charstring.specs.Run.{behind}
 use Rattle.charstring.specs.StretchLaws.{few-tokens}
 use Rattle.charstring.specs.LoopLaws.{Stands, Gives, begins, Turn, roomy-now, stands-on, arm-done, Before, before, Numbers, safe, Aims, arm-no}
@@ -26,7 +23,7 @@ use Rattle.charstring.proofs.argstack.unpack.Reads as unpack-reads
 use Rattle.charstring.proofs.charstring.choose.Reads as choose-reads
 use Rattle.charstring.proofs.charstring.choose_count.Reads as choose-count-reads
 use Rattle.charstring.proofs.marks.mark.Reads as mark-reads
-use Rattle.charstring.proofs.notes.note.Reads as note-reads
+use Rattle.charstring.proofs.notes.code_of.Reads as code-of-reads
 use Rattle.charstring.proofs.state.enter.Reads as enter-reads
 use Rattle.charstring.proofs.store.size_of.Reads as size-of-reads
 use Rattle.charstring.proofs.stretch.stretch.Reads as stretch-reads
@@ -71,8 +68,8 @@ callees t = (
   enter-reads.Learnt,
   run-below t,
   run.Post,
-  note-reads.Asked,
-  note-reads.Learnt,
+  code-of-reads.Asked,
+  code-of-reads.Learnt,
 )
 
 -- a place, and what a need asks, at the callees' contracts, the invariant and the measure
@@ -381,60 +378,142 @@ run-returns-3 t c = came t (c .before .before .before .before .before .before .b
 run-enum-told-3 : (t : ℕ) → Of run-lts.Need-enum-told-3 t
 run-enum-told-3 t c = search needs
 
--- behind a note
-abbrev run-of : (t : ℕ) → Of run-lts.After-slice-known11 t → Of run-lts.After-run t
-run-of t c = c .before .before .before .before .before .before .before .before .before .before .before .before .before
+-- ---- a note
 
--- the operands fit the stack as an entry's run left it
-fits : (t : ℕ) (c : Of run-lts.After-run t) → start t c .args .by .rules .operands ≤ length (c .run .last .1 .1 .1 .1 .1 .0)
-fits t c = let e = still-stack t c in let k = start t c .pre .1 .0 .roomy .operands-fit in omega arith
+-- where its numbers were come to
+abbrev run-at-levels : (t : ℕ) → Of run-lts.After-struct-known2 t → Of run-lts.After-run t
+run-at-levels t c = c .before .before .before .before .before .before .before .before .before
 
-run-sub-around : (t : ℕ) → Of run-lts.Need-sub-around t
-run-sub-around t c = start t (c .before .before .before .before .before .before .before .before .before) .pre .1 .1 .1
+abbrev run-at-operands : (t : ℕ) → Of run-lts.After-struct-known3 t → Of run-lts.After-run t
+run-at-operands t c = c .before .before .before .before .before .before .before .before .before .before
 
-run-mul-note : (t : ℕ) → Of run-lts.Need-mul-note t
-run-mul-note t c =
-    let at-run = c .before .before .before .before .before .before .before .before .before in
-    let few = start t at-run .pre .1 .0 .roomy in omega (arith, few .operands-fit, few .few-words)
+abbrev run-at-code : (t : ℕ) → Of run-lts.After-code-of t → Of run-lts.After-run t
+run-at-code t c = c .before .before .before .before .before .before .before .before .before .before .before .before
 
-run-sub-note : (t : ℕ) → Of run-lts.Need-sub-note t
-run-sub-note t c = fits t (c .before .before .before .before .before .before .before .before .before)
+abbrev told-of : (t : ℕ) → Of run-lts.After-run t → Of run-lts.After-known-told4 t
+told-of t c = mark-of t (size-of t c) .before .before
 
-run-part-note-start : (t : ℕ) → Of run-lts.Need-part-note-start t
-run-part-note-start t c = fits t (c .before .before .before .before .before .before .before .before .before)
+-- where it stands
+abbrev spot : (t : ℕ) → Of run-lts.After-run t → ℕ
+spot t c = let by = start t c .args .by in by .rules .operands + 3 * (by .rules .levels - start t c .args .levels)
 
-run-part-note-end : (t : ℕ) → Of run-lts.Need-part-note-end t
-run-part-note-end t c = search needs
+-- the numbers that its place goes by: where the operands end, how many calls are around, and how long the stack is
+record Place (t : ℕ) (c : Of run-lts.After-run t) : Type 0 where
+  few-operands : start t c .args .by .rules .operands ≤ 65535
+  deep : start t c .args .levels ≤ start t c .args .by .rules .levels
+  few-levels : start t c .args .by .rules .levels < 4294967296
+  few-words : length (c .run .last .1 .1 .1 .1 .1 .0) ≤ 65535
 
-run-sub-note-2 : (t : ℕ) → Of run-lts.Need-sub-note-2 t
-run-sub-note-2 t c =
-    let at-run = c .before .before .before .before .before .before .before .before .before .before in
-    let n = numbers t (call-of t (at-target t at-run)) in omega (arith, n .ahead)
+place : (t : ℕ) (c : Of run-lts.After-run t) → Place t c
+place t c =
+    let e = still-stack t c in
+    let pre = start t c .pre in
+    let roomy = pre .1 .0 .roomy in
+    record {
+      few-operands = omega (arith, roomy .operands-fit, roomy .few-words);
+      deep = pre .1 .1 .1;
+      few-levels = let good = start t c .good in omega (arith, good);
+      few-words = omega (arith, roomy .few-words);
+    }
 
-run-note-requires : (t : ℕ) → Of run-lts.Need-note-requires t
-run-note-requires t c κs = tt
+run-sub-at : (t : ℕ) → Of run-lts.Need-sub-at t
+run-sub-at t c = place t (run-at-levels t c) .deep
+
+run-cast-at : (t : ℕ) → Of run-lts.Need-cast-at t
+run-cast-at t c = let p = place t (run-at-levels t c) in omega (arith, p .few-operands, p .deep, p .few-levels)
+
+run-mul-at : (t : ℕ) → Of run-lts.Need-mul-at t
+run-mul-at t c = let p = place t (run-at-levels t c) in omega (arith, p .few-operands, p .deep, p .few-levels)
+
+run-add-at : (t : ℕ) → Of run-lts.Need-add-at t
+run-add-at t c = let p = place t (run-at-operands t c) in omega (arith, p .few-operands, p .deep, p .few-levels)
+
+run-add-if1 : (t : ℕ) → Of run-lts.Need-add-if1 t
+run-add-if1 t c = let p = place t (run-at-operands t c) in omega (arith, p .few-operands, p .deep, p .few-levels)
+
+run-code-of-requires : (t : ℕ) → Of run-lts.Need-code-of-requires t
+run-code-of-requires t c κs = tt
+
+run-mul-stack : (t : ℕ) → Of run-lts.Need-mul-stack t
+run-mul-stack t c = let h = c .before .if1 .taken in let p = place t (run-at-code t c) in omega (arith, p .few-words)
+
+run-slice-write-stack : (t : ℕ) → Of run-lts.Need-slice-write-stack t
+run-slice-write-stack t c = let h = c .before .if1 .taken in let p = place t (run-at-code t c) in omega (arith, p .few-words)
+
+run-cast-stack : (t : ℕ) → Of run-lts.Need-cast-stack t
+run-cast-stack t c = let g = told-of t (run-at-code t c) .known-told4 .given in omega (arith, g)
+
+run-add-stack : (t : ℕ) → Of run-lts.Need-add-stack t
+run-add-stack t c = let h = c .before .if1 .taken in let p = place t (run-at-code t c) in omega (arith, p .few-words)
+
+run-mul-stack-2 : (t : ℕ) → Of run-lts.Need-mul-stack-2 t
+run-mul-stack-2 t c = let h = c .before .if1 .taken in let p = place t (run-at-code t c) in omega (arith, p .few-words)
+
+run-slice-write-stack-2 : (t : ℕ) → Of run-lts.Need-slice-write-stack-2 t
+run-slice-write-stack-2 t c =
+    let at = run-at-code t c in
+    let h = c .before .if1 .taken in
+    let stack = at .run .last .1 .1 .1 .1 .1 .0 in
+    omega (arith, length-set stack (spot t at) (c .code-of .result))
+
+run-sub-stack : (t : ℕ) → Of run-lts.Need-sub-stack t
+run-sub-stack t c = let n = numbers t (call-of t (at-target t (run-at-code t c))) in omega (arith, n .ahead)
+
+run-add-stack-2 : (t : ℕ) → Of run-lts.Need-add-stack-2 t
+run-add-stack-2 t c = let h = c .before .if1 .taken in let p = place t (run-at-code t c) in omega (arith, p .few-words)
+
+run-mul-stack-3 : (t : ℕ) → Of run-lts.Need-mul-stack-3 t
+run-mul-stack-3 t c = let h = c .before .if1 .taken in let p = place t (run-at-code t c) in omega (arith, p .few-words)
+
+run-slice-write-stack-3 : (t : ℕ) → Of run-lts.Need-slice-write-stack-3 t
+run-slice-write-stack-3 t c =
+    let at = run-at-code t c in
+    let h = c .before .if1 .taken in
+    let stack = at .run .last .1 .1 .1 .1 .1 .0 in
+    let k = at-target t at .target2 .given .0 .0 in
+    omega (arith, length-set stack (spot t at) (c .code-of .result), length-set (set stack (spot t at) (c .code-of .result)) (spot t at + 1) k)
 
 run-same-length-10 : (t : ℕ) → Of run-lts.Need-same-length-10 t
-run-same-length-10 t c = c .before .stack3 .given .1 ∙ still-stack t (run-of t c)
+run-same-length-10 t c =
+    let at = run-at-code t c in
+    let stack = at .run .last .1 .1 .1 .1 .1 .0 in
+    let code = c .code-of .result in
+    let k = at-target t at .target2 .given .0 .0 in
+    length-set (set (set stack (spot t at) code) (spot t at + 1) k) (spot t at + 2) _ ∙ length-set (set stack (spot t at) code) (spot t at + 1) k
+    ∙ length-set stack (spot t at) code ∙ still-stack t at
 
 run-same-length-11 : (t : ℕ) → Of run-lts.Need-same-length-11 t
-run-same-length-11 t c = still-out t (run-of t c)
+run-same-length-11 t c = still-out t (run-at-code t c)
 
 run-same-length-12 : (t : ℕ) → Of run-lts.Need-same-length-12 t
-run-same-length-12 t c = still-marks t (run-of t c)
+run-same-length-12 t c = still-marks t (run-at-code t c)
 
 run-returns-4 : (t : ℕ) → Of run-lts.Need-returns-4 t
 run-returns-4 t c =
-    let at = run-of t c in
+    let at = run-at-code t c in
     let args = start t at .args in
-    let ops = args .by .rules .operands in
-    let stack = at .run .last .1 .1 .1 .1 .1 .0 in
-    let target = at-target t at in
-    let call = call-of t target .stop2 .given .0 in
-    came t at .refused _ (c .before .before .before .before .before .enum-told3 .given .1) (start t at .pre .1 .1 .1) _
-    (behind-put ops stack _ (fits t at) ∙ c .before .before .note .ensures
-    ∙ ap (λ (l : List ℕ). noteAt l (args .by .rules .levels - args .levels) (call .1 .0) (target .target2 .given .0 .0) (call .0 - 1))
-    (rest-part ops stack))
+    let call = call-of t (at-target t at) .stop2 .given .0 in
+    came t at .refused _ (c .before .before .before .before .enum-told3 .given .1) (place t at .deep) _
+    (note-inside (at .run .last .1 .1 .1 .1 .1 .0) (args .by .rules .operands) (args .by .rules .levels - args .levels)
+    (at-target t at .target2 .given .0 .0) (call .0 - 1) (call .1 .0) (c .code-of .result) (c .code-of .ensures) (c .before .if1 .taken))
+
+run-same-length-13 : (t : ℕ) → Of run-lts.Need-same-length-13 t
+run-same-length-13 t c = still-stack t (c .before .before .before .before .before .before .before .before .before .before .before)
+
+run-same-length-14 : (t : ℕ) → Of run-lts.Need-same-length-14 t
+run-same-length-14 t c = still-out t (c .before .before .before .before .before .before .before .before .before .before .before)
+
+run-same-length-15 : (t : ℕ) → Of run-lts.Need-same-length-15 t
+run-same-length-15 t c = still-marks t (c .before .before .before .before .before .before .before .before .before .before .before)
+
+run-returns-5 : (t : ℕ) → Of run-lts.Need-returns-5 t
+run-returns-5 t c =
+    let at = c .before .before .before .before .before .before .before .before .before .before .before in
+    let args = start t at .args in
+    let call = call-of t (at-target t at) .stop2 .given .0 in
+    came t at .refused _ (c .before .before .before .enum-told3 .given .1) (place t at .deep) _
+    (note-outside (at .run .last .1 .1 .1 .1 .1 .0) (args .by .rules .operands) (args .by .rules .levels - args .levels)
+    (at-target t at .target2 .given .0 .0) (call .0 - 1) (call .1 .0) (c .if1 .left))
 
 pub +run-spec : {M : Type 1} → statement M
 +run-spec = close μ-run λ t. run-lts.spec (callees t)
@@ -480,14 +559,27 @@ pub +run-spec : {M : Type 1} → statement M
     (run-same-length-9 t)
     (run-returns-3 t)
     (run-enum-told-3 t)
-    (run-sub-around t)
-    (run-mul-note t)
-    (run-sub-note t)
-    (run-part-note-start t)
-    (run-part-note-end t)
-    (run-sub-note-2 t)
-    (run-note-requires t)
+    (run-sub-at t)
+    (run-cast-at t)
+    (run-mul-at t)
+    (run-add-at t)
+    (run-add-if1 t)
+    (run-code-of-requires t)
+    (run-mul-stack t)
+    (run-slice-write-stack t)
+    (run-cast-stack t)
+    (run-add-stack t)
+    (run-mul-stack-2 t)
+    (run-slice-write-stack-2 t)
+    (run-sub-stack t)
+    (run-add-stack-2 t)
+    (run-mul-stack-3 t)
+    (run-slice-write-stack-3 t)
     (run-same-length-10 t)
     (run-same-length-11 t)
     (run-same-length-12 t)
     (run-returns-4 t)
+    (run-same-length-13 t)
+    (run-same-length-14 t)
+    (run-same-length-15 t)
+    (run-returns-5 t)
