@@ -17,10 +17,10 @@
  *
  * There is no state, nothing is allocated, and nothing is called but memcpy and memset; so any threads may
  * call at once, each with its own `out`, rows, `words` and places. ighzamrel_flatten goes one call deeper for each call
- * of the charstring: at 64 strings deep, the most in plain, it used less than 52 KiB of stack, at 11, the most
- * in strict, less than 12 KiB. ighzamrel_explain used less than 50 KiB in plain, less than 10 KiB in strict.
- * ighzamrel_flatten_marked keeps the marks in 16 KiB of stack besides: it used less than 68 KiB in plain, less than
- * 28 KiB in strict. ighzamrel_flatten_font keeps what it can of a font in 64 KiB besides: it used less than 114 KiB in
+ * of the charstring: at 64 strings deep, the most in plain, it used less than 48 KiB of stack, at 11, the most
+ * in strict, less than 11 KiB; ighzamrel_explain likewise.
+ * ighzamrel_flatten_marked keeps the marks in 16 KiB of stack besides: it used less than 64 KiB in plain, less than
+ * 28 KiB in strict. ighzamrel_flatten_font keeps what it can of a font in 64 KiB besides: it used less than 112 KiB in
  * plain, less than 80 KiB in strict. Each other function used less than 200 bytes (x86-64; docs/BENCHMARKS.md says how
  * that was measured).
  *
