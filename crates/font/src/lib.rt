@@ -1,7 +1,9 @@
-// Flattening a whole font: from a CharStrings INDEX and the two lists to the INDEX of all flat strings.
+// Flattening glyphs of a font: from a CharStrings INDEX and the two lists to the INDEX of flat strings, of all or of those asked for.
+mod choice;
 mod first;
 mod second;
 
+use crate::choice::places;
 use crate::first::Survey;
 use crate::first::measure_all;
 use crate::second::write_all;
@@ -20,8 +22,8 @@ ghost use lib.ListN.{length, take};
 ghost use Rattle.number.specs.Answer.{numberIn, leaving};
 ghost use Rattle.index_writing.specs.Writing.{writeIndex};
 ghost use Rattle.reading.specs.Rules.{rulesOf};
-ghost use Rattle.font.specs.Font.{flattenFont, fontFlattened};
-ghost use Rattle.font.specs.Code.{glyphsOf, allOf, Whole};
+ghost use Rattle.font.specs.Font.{these, flattenGlyphs, flattenFont, fontFlattened};
+ghost use Rattle.font.specs.Code.{glyphsOf, choiceOf, asked, allOf, Whole};
 
 // What flattening a font did.
 pub enum FontFlattened {
@@ -33,7 +35,11 @@ pub enum FontFlattened {
     BadLocals(Flaw),
     // The CharStrings INDEX is not well formed, and why.
     BadCharstrings(Flaw),
-    // The first glyph that is refused: its number, and why.
+    // Over 65535 glyphs are asked for.
+    TooMany,
+    // The first place that is refused: the font has no glyph of that number.
+    NoGlyph(u32),
+    // Or its glyph is refused, and why. In a whole font the place is the glyph's number.
     Refused(u32, Stopped),
     // The last offset is over 4294967295.
     TooLong,
@@ -51,6 +57,8 @@ impl FontFlattened {
             FontFlattened::BadGlobals(_) => 1,
             FontFlattened::BadLocals(_) => 2,
             FontFlattened::BadCharstrings(_) => 26,
+            FontFlattened::TooMany => 22,
+            FontFlattened::NoGlyph(_) => 25,
             FontFlattened::Refused(_, why) => why.number(),
             FontFlattened::TooLong => 23,
             FontFlattened::NoRoom(_) => 13,
@@ -71,21 +79,92 @@ pub fn flatten_font<'a>(
     ensures { λ r. ⌜ leaving (fontFlattened r) (now (out .exit))
         ≡ flattenFont (rulesOf profile) (now (charstrings .entry)) (now (globals .entry)) (now (locals .entry)) budget (now (out .entry)) ⌝ }
 {
+    let none = [0u32; 0];
+    flatten_chosen(
+        charstrings,
+        true,
+        &none,
+        globals,
+        locals,
+        profile,
+        budget,
+        out,
+    )
+}
+
+// The same of the glyphs that `numbers` has, in its order, as often as it has them.
+pub fn flatten_glyphs<'a>(
+    charstrings: &'a [u8],
+    numbers: &[u32],
+    globals: &'a [u8],
+    locals: &'a [u8],
+    profile: Profile,
+    budget: u32,
+    out: &mut [u8],
+) -> FontFlattened
+    ensures { λ r. ⌜ leaving (fontFlattened r) (now (out .exit))
+        ≡ flattenGlyphs (rulesOf profile) (these (now (numbers .entry))) (now (charstrings .entry)) (now (globals .entry)) (now (locals .entry)) budget
+        (now (out .entry)) ⌝ }
+{
+    flatten_chosen(
+        charstrings,
+        false,
+        numbers,
+        globals,
+        locals,
+        profile,
+        budget,
+        out,
+    )
+}
+
+// Both: of all glyphs in order, or of those that `numbers` has.
+fn flatten_chosen<'a>(
+    charstrings: &'a [u8],
+    all: bool,
+    numbers: &[u32],
+    globals: &'a [u8],
+    locals: &'a [u8],
+    profile: Profile,
+    budget: u32,
+    out: &mut [u8],
+) -> FontFlattened
+    ensures { λ r. ⌜ leaving (fontFlattened r) (now (out .exit))
+        ≡ flattenGlyphs (rulesOf profile) (choiceOf all (now (numbers .entry)))
+        (now (charstrings .entry)) (now (globals .entry)) (now (locals .entry)) budget (now (out .entry)) ⌝ }
+{
     if let Formed::No(flaw) = check_list(globals, Width::Two) {
         return FontFlattened::BadGlobals(flaw);
     }
     if let Formed::No(flaw) = check_list(locals, Width::Two) {
         return FontFlattened::BadLocals(flaw);
     }
-    match check_list(charstrings, Width::Two) {
-        Formed::No(flaw) => FontFlattened::BadCharstrings(flaw),
-        Formed::Yes(count) => {
-            flatten_all(charstrings, globals, locals, profile, budget, count, out)
+    let count = match check_list(charstrings, Width::Two) {
+        Formed::No(flaw) => {
+            return FontFlattened::BadCharstrings(flaw);
         }
+        Formed::Yes(count) => count,
+    };
+    let many = places(all, numbers, count);
+    if 65535 < many {
+        return FontFlattened::TooMany;
     }
+    flatten_all(
+        charstrings,
+        globals,
+        locals,
+        profile,
+        budget,
+        count,
+        all,
+        numbers,
+        many as u32,
+        out,
+    )
 }
 
-// The same where the three are well formed, and there are `count` glyphs. What the first pass keeps stands on the stack: 64 KiB.
+// The same where the three are well formed, the font has `count` glyphs, and `many` are asked for. What the first pass keeps stands on
+// the stack: 64 KiB.
 fn flatten_all<'a>(
     charstrings: &'a [u8],
     globals: &'a [u8],
@@ -93,11 +172,15 @@ fn flatten_all<'a>(
     profile: Profile,
     budget: u32,
     count: u32,
+    all: bool,
+    numbers: &[u32],
+    many: u32,
     out: &mut [u8],
 ) -> FontFlattened
-    requires { ⌜ count ≤ 65535 ⌝ }
+    requires { ⌜ many ≤ 65535 ⌝ }
     ensures { λ r. ⌜ leaving (fontFlattened r) (now (out .exit))
-        ≡ allOf (glyphsOf profile (now (charstrings .entry)) (now (globals .entry)) (now (locals .entry)) budget) count (now (out .entry)) ⌝ }
+        ≡ allOf (asked all (now (numbers .entry)) count
+        (glyphsOf profile (now (charstrings .entry)) (now (globals .entry)) (now (locals .entry)) budget)) many (now (out .entry)) ⌝ }
 {
     let mut lengths = [0u32; 4096];
     let mut joined = [0u8; 49152];
@@ -108,14 +191,18 @@ fn flatten_all<'a>(
         profile,
         budget,
         count,
+        all,
+        numbers,
+        many,
         &mut lengths,
         &mut joined,
     );
     match survey {
-        Survey::Refused(glyph, why) => FontFlattened::Refused(glyph, why),
+        Survey::NoGlyph(place) => FontFlattened::NoGlyph(place),
+        Survey::Refused(place, why) => FontFlattened::Refused(place, why),
         Survey::Flat(sum) => {
-            if all_kept(count, sum, lengths.len(), joined.len()) {
-                return write_kept(count, sum, &lengths, &joined, out);
+            if all_kept(many, sum, lengths.len(), joined.len()) {
+                return write_kept(many, sum, &lengths, &joined, out);
             }
             write_all(
                 charstrings,
@@ -123,7 +210,9 @@ fn flatten_all<'a>(
                 locals,
                 profile,
                 budget,
-                count,
+                all,
+                numbers,
+                many,
                 sum,
                 out,
             )

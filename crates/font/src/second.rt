@@ -1,5 +1,6 @@
-// The second pass: it runs all glyphs again, each into its place in the INDEX, where the first pass could not keep them.
+// The second pass: it runs the glyphs again, each into its place in the INDEX, where the first pass could not keep them.
 use crate::FontFlattened;
+use crate::choice::number_at;
 use charstring::draft;
 use index::Width;
 use index::entry_part;
@@ -14,24 +15,27 @@ ghost use lib.ListN.{length};
 ghost use Rattle.number.specs.Answer.{mapped, leaving, sized, into};
 ghost use Rattle.index_writing.specs.Writing.{indexBytes};
 ghost use Rattle.font.specs.Font.{lengthsOf, joinedOf, indexed, fontFlattened};
-ghost use Rattle.font.specs.Code.{glyphsOf, allOf, stringIn, strings, Measured, Laid, Filled, filled, Fits, Begun};
+ghost use Rattle.font.specs.Code.{glyphsOf, placed, allOf, stringIn, strings, Measured, Laid, Filled, filled, Fits, Begun};
 
-// Writes the INDEX of the flat strings of all glyphs, which have `sum` bytes together, to the start of out.
+// Writes the INDEX of the flat strings at `many` places, which have `sum` bytes together, to the start of out.
 pub(crate) fn write_all<'a>(
     charstrings: &'a [u8],
     globals: &'a [u8],
     locals: &'a [u8],
     profile: Profile,
     budget: u32,
-    count: u32,
+    all: bool,
+    numbers: &[u32],
+    many: u32,
     sum: u64,
     out: &mut [u8],
 ) -> FontFlattened
-    requires { ⌜ Measured (glyphsOf profile (now charstrings) (now globals) (now locals) budget) count sum ⌝ }
+    requires { ⌜ Measured (placed all (now numbers) (glyphsOf profile (now charstrings) (now globals) (now locals) budget)) many sum ⌝ }
     ensures { λ r. ⌜ leaving (fontFlattened r) (now (out .exit))
-        ≡ allOf (glyphsOf profile (now (charstrings .entry)) (now (globals .entry)) (now (locals .entry)) budget) count (now (out .entry)) ⌝ }
+        ≡ allOf (placed all (now (numbers .entry))
+        (glyphsOf profile (now (charstrings .entry)) (now (globals .entry)) (now (locals .entry)) budget)) many (now (out .entry)) ⌝ }
 {
-    let IndexPlan::Of(size, needed) = plan_index(count, sum) else {
+    let IndexPlan::Of(size, needed) = plan_index(many, sum) else {
         return FontFlattened::TooLong;
     };
     if out.len() < needed {
@@ -43,7 +47,9 @@ pub(crate) fn write_all<'a>(
         locals,
         profile,
         budget,
-        count,
+        all,
+        numbers,
+        many,
         size,
         &mut out[..needed],
     );
@@ -57,18 +63,22 @@ fn put_font<'a>(
     locals: &'a [u8],
     profile: Profile,
     budget: u32,
-    count: u32,
+    all: bool,
+    numbers: &[u32],
+    many: u32,
     size: usize,
     out: &mut [u8],
 )
-    requires { ⌜ Laid (glyphsOf profile (now charstrings) (now globals) (now locals) budget) count size (now out) ⌝ }
+    requires { ⌜ Laid (placed all (now numbers) (glyphsOf profile (now charstrings) (now globals) (now locals) budget)) many size (now out) ⌝ }
     ensures { λ _. ⌜ now (out .exit)
         ≡ indexBytes 2
-        (lengthsOf (strings (glyphsOf profile (now (charstrings .entry)) (now (globals .entry)) (now (locals .entry)) budget) 0 count))
-        (joinedOf (strings (glyphsOf profile (now (charstrings .entry)) (now (globals .entry)) (now (locals .entry)) budget) 0 count)) ⌝ }
+        (lengthsOf (strings (placed all (now (numbers .entry))
+        (glyphsOf profile (now (charstrings .entry)) (now (globals .entry)) (now (locals .entry)) budget)) 0 many))
+        (joinedOf (strings (placed all (now (numbers .entry))
+        (glyphsOf profile (now (charstrings .entry)) (now (globals .entry)) (now (locals .entry)) budget)) 0 many)) ⌝ }
 {
-    write_be(out, 0, 2, count);
-    if count == 0 {
+    write_be(out, 0, 2, many);
+    if many == 0 {
         return;
     }
     out[2] = size as u8;
@@ -78,7 +88,9 @@ fn put_font<'a>(
         locals,
         profile,
         budget,
-        count,
+        all,
+        numbers,
+        many,
         size,
         out,
     );
@@ -91,21 +103,25 @@ fn put_glyphs<'a>(
     locals: &'a [u8],
     profile: Profile,
     budget: u32,
-    count: u32,
+    all: bool,
+    numbers: &[u32],
+    many: u32,
     size: usize,
     out: &mut [u8],
 )
-    requires { ⌜ Filled (glyphsOf profile (now charstrings) (now globals) (now locals) budget) count size (now out) ⌝ }
+    requires { ⌜ Filled (placed all (now numbers) (glyphsOf profile (now charstrings) (now globals) (now locals) budget)) many size (now out) ⌝ }
     ensures { λ _. ⌜ now (out .exit)
-        ≡ filled (glyphsOf profile (now (charstrings .entry)) (now (globals .entry)) (now (locals .entry)) budget) count size (now (out .entry)) ⌝ }
+        ≡ filled (placed all (now (numbers .entry))
+        (glyphsOf profile (now (charstrings .entry)) (now (globals .entry)) (now (locals .entry)) budget)) many size (now (out .entry)) ⌝ }
 {
-    let base = 2 + (count as usize + 1) * size;
+    let base = 2 + (many as usize + 1) * size;
     let mut offset: u32 = 1;
     let mut at: usize = 3;
     let mut i: u32 = 0;
-    while i < count {
+    while i < many {
         write_be(out, at, size, offset);
-        let glyph = entry_part(charstrings, Width::Two, i);
+        let number = number_at(all, numbers, i);
+        let glyph = entry_part(charstrings, Width::Two, number);
         offset += put_run(
             glyph,
             globals,

@@ -14,6 +14,7 @@ mod numbers;
 pub use crate::explaining::ighzamrel_explain;
 pub use crate::flattening::ighzamrel_flatten;
 pub use crate::fonts::ighzamrel_flatten_font;
+pub use crate::fonts::ighzamrel_flatten_glyphs;
 pub use crate::indexes::ighzamrel_check_list;
 pub use crate::indexes::ighzamrel_read_entry;
 pub use crate::indexes::ighzamrel_read_index;
