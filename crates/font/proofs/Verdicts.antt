@@ -1,5 +1,6 @@
 -- What the answers of `draft` can be. Assumes nothing.
 use mathlib.Core.Path.{_≡_, sym, ap, _∙_}
+use mathlib.Core.Bool.{Bool}
 use mathlib.Core.List.{List, [], _∷_}
 use Prim.Native.Nat.{ℕ, _<_}
 use native.Mathlib.Omega.{arith}
@@ -14,11 +15,11 @@ use Rattle.reading.specs.declared.Flattened.{Flattened}
 use Rattle.reading.specs.declared.Flattened.the-variants.{Accepted, BadGlobals, BadLocals, Refused, NoRoom}
 use Rattle.reading.proofs.Flattened as flattened-type
 use Rattle.font.specs.Font.{flatIn}
-use Rattle.font.specs.Code.{Ran, Surveyed, OfRun, StoppedAt}
+use Rattle.font.specs.Code.{numberOf, placed, There, Ran, Surveyed, OfRun, StoppedAt}
 use Rattle.font.specs.GlyphLaws.{verdict-refused, verdict-with}
-use Rattle.font.specs.FontLaws.{first-refused}
+use Rattle.font.specs.ChoiceLaws.{asked-refused}
 use Rattle.font.specs.declared.first.Survey.{Survey}
-use Rattle.font.specs.declared.first.Survey.the-variants.{Flat, Refused as Told}
+use Rattle.font.specs.declared.first.Survey.the-variants.{Flat, NoGlyph, Refused as Told}
 
 -- all but an accepted one
 abbrev pub Refusals : List ℕ
@@ -58,9 +59,13 @@ not-accepted (Refused w) k x e = refused-accepted e
 not-accepted (NoRoom n t) k x e = refused-accepted e
 
 -- the first glyph that is refused, told
-pub told-stopped : (glyph : ℕ → Answer (List ℕ)) (i n : ℕ) (lengths joined : List ℕ) (a : Answer Flattening) (rules : Rules) (x : Run) (s : Survey)
-    → i < n → Ran glyph i → glyph i ≡ flatIn rules x → a ≡ verdict rules x → StoppedAt i a s → Surveyed glyph n lengths joined s
-told-stopped glyph i n lengths joined a rules x (Flat sum) h r g v st = absurd st
-told-stopped glyph i n lengths joined a rules x (Told j w) h r g v st =
-    ap (λ (m : ℕ). refused (stopNumber w) (atGlyph m (stopValues w))) (st .0)
-    ∙ first-refused glyph i n h r (stopNumber w) (stopValues w) (g ∙ verdict-refused rules x (stopNumber w) (stopValues w) (sym (st .1) ∙ v))
+module _ (all : Bool) (numbers : List ℕ) (count : ℕ) (glyph : ℕ → Answer (List ℕ)) where
+  pub told-stopped : (i n : ℕ) (lengths joined : List ℕ) (a : Answer Flattening) (rules : Rules) (x : Run) (s : Survey)
+      → i < n → There all numbers count i → Ran (placed all numbers glyph) i → numberOf all numbers i < count
+      → placed all numbers glyph i ≡ flatIn rules x → a ≡ verdict rules x → StoppedAt i a s → Surveyed all numbers count glyph n lengths joined s
+  told-stopped i n lengths joined a rules x (Flat sum) h t r there g v st = absurd st
+  told-stopped i n lengths joined a rules x (NoGlyph j) h t r there g v st = absurd st
+  told-stopped i n lengths joined a rules x (Told j w) h t r there g v st =
+      ap (λ (m : ℕ). refused (stopNumber w) (atGlyph m (stopValues w))) (st .0)
+      ∙ asked-refused all numbers count glyph i n h t r there (stopNumber w) (stopValues w)
+      (g ∙ verdict-refused rules x (stopNumber w) (stopValues w) (sym (st .1) ∙ v))

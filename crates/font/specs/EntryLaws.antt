@@ -52,15 +52,6 @@ module _ (glyph : ℕ → Answer (List ℕ)) where
   each i zero fs e = subst (Each glyph i zero) (accepted-same e) (record { many = refl; is = λ j h. absurd (omega arith) })
   each i (suc n) fs e = each-decided i n (glyph i) refl (allFrom glyph (i + 1) n) (each (i + 1) n) fs e
 
-  -- glyphs that give the same
-  pub all-alike : (other : ℕ → Answer (List ℕ)) (i n : ℕ) → ((j : ℕ) → j < i + n → other j ≡ glyph j)
-      → allFrom other i n ≡ allFrom glyph i n
-  unfolding allFrom
-  all-alike other i zero f = refl
-  all-alike other i (suc n) f =
-      ap (λ (x : Answer (List ℕ)). decided i x (allFrom other (i + 1) n)) (f i (omega arith))
-      ∙ ap (decided i (glyph i)) (all-alike other (i + 1) n (λ j h. f j (omega arith)))
-
 -- ---- the INDEX of strings
 
 pub count-lengths : (fs : List (List ℕ)) → length (lengthsOf fs) ≡ length fs

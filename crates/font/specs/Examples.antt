@@ -1,4 +1,4 @@
--- Worked examples of a whole font (RULES, "A whole font"), proved by the definitions. Assumes nothing.
+-- Worked examples of glyphs of a font (RULES, "A whole font" and "Glyphs of a font"), proved by the definitions. Assumes nothing.
 use mathlib.Core.Path.{_≡_, refl}
 use mathlib.Core.List.{List, [], _∷_, _++_}
 use Prim.Native.Nat.{ℕ}
@@ -20,7 +20,8 @@ use Rattle.reading.specs.Reading.{struck, tokensBy, endsInOperand, admitted, on
 use Rattle.reading.specs.Reading.{onIndex, onCall, onOperator, onCut, onToken, resume, after, tokensOf, read, reading}
 use Rattle.reading.specs.Flat.{spelled, flat}
 use Rattle.reading.specs.Answers.{readyBy, judged}
-use Rattle.font.specs.Font.{flatIn, decided, allFrom, lengthsOf, joinedOf, indexed, ifFormed, fontBy, flatFont, flattenFont}
+use Rattle.font.specs.Font.{Choice, every, these, flatIn, within, decided, allFrom, chosen, lengthsOf, joinedOf, indexed}
+use Rattle.font.specs.Font.{ifFormed, fontBy, flatGlyphs, flattenGlyphs}
 
 -- what a row expects: an INDEX, or a refusal and what comes with it
 pub data Expected : Type 0 where
@@ -28,6 +29,7 @@ pub data Expected : Type 0 where
   refuses : ℕ → Values → Expected
 
 pub record Row : Type 0 where
+  pub choice : ℕ → Choice
   pub charstrings : List ℕ
   pub globals : List ℕ
   pub locals : List ℕ
@@ -45,7 +47,7 @@ expectedBy out (gives b) = leaving (accepted (length b)) (b ++ drop (length b) o
 expectedBy out (refuses n v) = leaving (refused n v) out
 
 abbrev pub Holds : Row → Type 0
-Holds r = flattenFont (r .rules) (r .charstrings) (r .globals) (r .locals) (r .budget) (lent r) ≡ expectedBy (lent r) (r .expected)
+Holds r = flattenGlyphs (r .rules) (r .choice) (r .charstrings) (r .globals) (r .locals) (r .budget) (lent r) ≡ expectedBy (lent r) (r .expected)
 
 abbrev pub All : List Row → Type 0
 All [] = Unit {0}
@@ -62,7 +64,8 @@ L = 0x00 ∷ 0x01 ∷ 0x01 ∷ 0x01 ∷ 0x05 ∷ 0x8C ∷ 0x8D ∷ 0x15 ∷ 0x0B
 
 -- ample room
 abbrev row : List ℕ → List ℕ → ℕ → Expected → Row
-row charstrings locals budget e = record { charstrings = charstrings; globals = none; locals = locals; rules = plain; budget = budget; room = 12; expected = e }
+row charstrings locals budget e =
+    record { choice = every; charstrings = charstrings; globals = none; locals = locals; rules = plain; budget = budget; room = 12; expected = e }
 
 -- an endchar
 abbrev one : List ℕ
@@ -97,7 +100,7 @@ waiting =
 
 abbrev withLists : List ℕ → List ℕ → List ℕ → Expected → Row
 withLists charstrings globals locals e =
-    record { charstrings = charstrings; globals = globals; locals = locals; rules = plain; budget = 1000; room = 12; expected = e }
+    record { choice = every; charstrings = charstrings; globals = globals; locals = locals; rules = plain; budget = 1000; room = 12; expected = e }
 
 abbrev pub rows : List Row
 rows =
@@ -114,32 +117,80 @@ rows =
     ∷ row three none 1000 (refuses 6 (atGlyph 1 (atToken 1)))
     ∷ row threeBad none 1000 (refuses 6 (atGlyph 1 (atToken 1)))
     -- each glyph has the whole budget
-    ∷ record { charstrings = short; globals = none; locals = none; rules = plain; budget = 2; room = 13; expected = gives short }
-    ∷ record { charstrings = short; globals = none; locals = none; rules = plain; budget = 1; room = 13; expected = refuses 3 (atGlyph 0 (atToken 1)) }
+    ∷ record { choice = every; charstrings = short; globals = none; locals = none; rules = plain; budget = 2; room = 13; expected = gives short }
+    ∷ record { choice = every; charstrings = short; globals = none; locals = none; rules = plain; budget = 1; room = 13; expected = refuses 3 (atGlyph 0 (atToken 1)) }
     -- room for all of it but a byte
-    ∷ record { charstrings = two; globals = none; locals = L; rules = plain; budget = 1000; room = 9; expected = refuses 13 (needing 10) }
-    ∷ record { charstrings = two; globals = none; locals = L; rules = plain; budget = 1000; room = 10; expected = gives flatTwo }
+    ∷ record { choice = every; charstrings = two; globals = none; locals = L; rules = plain; budget = 1000; room = 9; expected = refuses 13 (needing 10) }
+    ∷ record { choice = every; charstrings = two; globals = none; locals = L; rules = plain; budget = 1000; room = 10; expected = gives flatTwo }
     -- 1 before 2, 2 before 26, 26 before a glyph's own; each with its reason
     ∷ withLists descending [] descending (refuses 1 (because 20 alone))
     ∷ withLists descending none (0x00 ∷ 0x01 ∷ 0x05 ∷ []) (refuses 2 (because 21 alone))
     ∷ withLists descending none none (refuses 26 (because 41 (atEntry 1)))
     ∷ withLists [] none none (refuses 26 (because 20 alone))
     -- a glyph's own before 13
-    ∷ record { charstrings = three; globals = none; locals = none; rules = plain; budget = 1000; room = 0; expected = refuses 6 (atGlyph 1 (atToken 1)) }
+    ∷ record { choice = every; charstrings = three; globals = none; locals = none; rules = plain; budget = 1000; room = 0; expected = refuses 6 (atGlyph 1 (atToken 1)) }
     ∷ []
 
 abbrev pub rowsInStrict : List Row
 rowsInStrict =
     -- 15 of a glyph comes with its number alone, in strict
-    record { charstrings = waiting; globals = none; locals = none; rules = strict; budget = 1000; room = 24; expected = refuses 15 (atGlyph 1 alone) }
-    ∷ record { charstrings = waiting; globals = none; locals = none; rules = plain; budget = 1000; room = 24; expected = gives waiting }
+    record { choice = every; charstrings = waiting; globals = none; locals = none; rules = strict; budget = 1000; room = 24; expected = refuses 15 (atGlyph 1 alone) }
+    ∷ record { choice = every; charstrings = waiting; globals = none; locals = none; rules = plain; budget = 1000; room = 24; expected = gives waiting }
     -- and so does 16, also before 13
-    ∷ record { charstrings = two; globals = none; locals = L; rules = strict; budget = 1000; room = 0; expected = refuses 16 (atGlyph 1 alone) }
-    ∷ record { charstrings = short; globals = none; locals = none; rules = strict; budget = 1000; room = 13; expected = gives short }
+    ∷ record { choice = every; charstrings = two; globals = none; locals = L; rules = strict; budget = 1000; room = 0; expected = refuses 16 (atGlyph 1 alone) }
+    ∷ record { choice = every; charstrings = short; globals = none; locals = none; rules = strict; budget = 1000; room = 13; expected = gives short }
     ∷ []
 
-pub rows-hold : All rows × All rowsInStrict
-unfolding expectedBy into readyBy judged flatIn decided allFrom lengthsOf joinedOf indexed ifFormed fontBy flatFont flattenFont
+-- of two glyphs, of which the first calls the entry of L and the second is an endchar, those that are numbered
+abbrev pair : List ℕ
+pair = 0x00 ∷ 0x02 ∷ 0x01 ∷ 0x01 ∷ 0x04 ∷ 0x05 ∷ 0x20 ∷ 0x0A ∷ 0x0E ∷ 0x0E ∷ []
+
+abbrev ask : List ℕ → ℕ → Expected → Row
+ask numbers room e =
+    record { choice = these numbers; charstrings = pair; globals = none; locals = L; rules = plain; budget = 1000; room = room; expected = e }
+
+-- and of an endchar, an operator that there is not, and an endchar or a call without an index
+abbrev askThree : List ℕ → List ℕ → Expected → Row
+askThree charstrings numbers e =
+    record { choice = these numbers; charstrings = charstrings; globals = none; locals = none; rules = plain; budget = 1000; room = 12; expected = e }
+
+abbrev pub rowsOfNumbers : List Row
+rowsOfNumbers =
+    -- no numbers: the count alone; one; all in order
+    ask [] 2 (gives none)
+    ∷ ask (1 ∷ []) 6 (gives one)
+    ∷ ask (0 ∷ 1 ∷ []) 20 (gives (0x00 ∷ 0x02 ∷ 0x01 ∷ 0x01 ∷ 0x05 ∷ 0x06 ∷ 0x8C ∷ 0x8D ∷ 0x15 ∷ 0x0E ∷ 0x0E ∷ []))
+    -- descending; a repeat stands as often as it is asked for
+    ∷ ask (1 ∷ 0 ∷ []) 20 (gives (0x00 ∷ 0x02 ∷ 0x01 ∷ 0x01 ∷ 0x02 ∷ 0x06 ∷ 0x0E ∷ 0x8C ∷ 0x8D ∷ 0x15 ∷ 0x0E ∷ []))
+    ∷ ask (1 ∷ 1 ∷ 1 ∷ []) 20 (gives (0x00 ∷ 0x03 ∷ 0x01 ∷ 0x01 ∷ 0x02 ∷ 0x03 ∷ 0x04 ∷ 0x0E ∷ 0x0E ∷ 0x0E ∷ []))
+    -- the last glyph, and one past it, with its place
+    ∷ ask (0 ∷ 2 ∷ []) 20 (refuses 25 (atGlyph 1 alone))
+    ∷ ask (4294967295 ∷ []) 20 (refuses 25 (atGlyph 0 alone))
+    -- room for all of it but a byte
+    ∷ ask (1 ∷ 0 ∷ []) 10 (refuses 13 (needing 11))
+    ∷ ask (1 ∷ 0 ∷ []) 11 (gives (0x00 ∷ 0x02 ∷ 0x01 ∷ 0x01 ∷ 0x02 ∷ 0x06 ∷ 0x0E ∷ 0x8C ∷ 0x8D ∷ 0x15 ∷ 0x0E ∷ []))
+    -- a refused glyph that is not asked for; where it is, its place comes with its refusal
+    ∷ askThree three (2 ∷ 0 ∷ []) (gives (0x00 ∷ 0x02 ∷ 0x01 ∷ 0x01 ∷ 0x02 ∷ 0x03 ∷ 0x0E ∷ 0x0E ∷ []))
+    ∷ askThree three (2 ∷ 0 ∷ 1 ∷ []) (refuses 6 (atGlyph 2 (atToken 1)))
+    -- of two the earlier place decides, also where one is past the last glyph
+    ∷ askThree threeBad (2 ∷ 1 ∷ []) (refuses 7 (atGlyph 0 (atToken 1)))
+    ∷ askThree threeBad (1 ∷ 2 ∷ []) (refuses 6 (atGlyph 0 (atToken 1)))
+    ∷ askThree three (3 ∷ 1 ∷ []) (refuses 25 (atGlyph 0 alone))
+    ∷ askThree three (1 ∷ 3 ∷ []) (refuses 6 (atGlyph 0 (atToken 1)))
+    -- 26 before 25
+    ∷ askThree descending (7 ∷ []) (refuses 26 (because 41 (atEntry 1)))
+    ∷ []
+
+-- 22 before 25, and behind 26; and as many as a count holds
+abbrev pub rowsOfMany : List Row
+rowsOfMany =
+    ask (replicate 65536 2) 20 (refuses 22 alone)
+    ∷ askThree descending (replicate 65536 0) (refuses 26 (because 41 (atEntry 1)))
+    ∷ ask (replicate 65535 2) 20 (refuses 25 (atGlyph 0 alone))
+    ∷ []
+
+pub rows-hold : All rows × All rowsInStrict × All rowsOfNumbers × All rowsOfMany
+unfolding expectedBy into readyBy judged flatIn within decided allFrom chosen lengthsOf joinedOf indexed ifFormed fontBy flatGlyphs flattenGlyphs
     total sizeFor offsets behindCount indexBytes indexOf
     beAt bytesOf signed unsigned integerRows rowsOf rowOf valueBy numberBy readBy formBy spell bytes bytesBy spelling
     bitLength counts callIndex entryOf biased callee
@@ -150,4 +201,6 @@ unfolding expectedBy into readyBy judged flatIn decided allFrom lengthsOf joined
 rows-hold = (
   (refl, (refl, (refl, (refl, (refl, (refl, (refl, (refl, (refl, (refl, (refl, (refl, (refl, (refl, (refl, (refl, (refl, tt))))))))))))))))),
   (refl, (refl, (refl, (refl, tt)))),
+  (refl, (refl, (refl, (refl, (refl, (refl, (refl, (refl, (refl, (refl, (refl, (refl, (refl, (refl, (refl, (refl, tt)))))))))))))))),
+  (refl, (refl, (refl, tt))),
 )

@@ -1,4 +1,4 @@
--- The laws of the glyphs in order: the first that is refused, and what all are together. Assumes nothing.
+-- The laws of glyphs place by place: the first that is refused, and what all are together. Assumes nothing.
 use mathlib.Core.Path.{_≡_, refl, sym, ap, subst, _∙_}
 use mathlib.Core.Bool.{Bool, true, false}
 use mathlib.Core.List.{List, [], _∷_, _++_, append-assoc, append-nil}
@@ -77,6 +77,15 @@ module _ (glyph : ℕ → Answer (List ℕ)) where
   first-refused i n h a k v e =
       sym (refused-behind i 0 n h (λ j l. a j (omega arith)) k v (ap glyph (zero-add i) ∙ e)
       ∙ ap (λ (j : ℕ). refused k (atGlyph j v)) (zero-add i))
+
+  -- glyphs that give the same
+  pub all-alike : (other : ℕ → Answer (List ℕ)) (i n : ℕ) → ((j : ℕ) → j < i + n → other j ≡ glyph j)
+      → allFrom other i n ≡ allFrom glyph i n
+  unfolding allFrom
+  all-alike other i zero f = refl
+  all-alike other i (suc n) f =
+      ap (λ (x : Answer (List ℕ)). decided i x (allFrom other (i + 1) n)) (f i (omega arith))
+      ∙ ap (decided i (glyph i)) (all-alike other (i + 1) n (λ j h. f j (omega arith)))
 
   -- one more is accepted
   pub ran-next : (i : ℕ) → Ran glyph i → Is (glyph i) → Ran glyph (i + 1)

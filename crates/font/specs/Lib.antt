@@ -3,6 +3,7 @@ pub mod Demands
 pub mod Code
 pub mod GlyphLaws
 pub mod FontLaws
+pub mod ChoiceLaws
 pub mod PassLaws
 pub mod WholeLaws
 pub mod EntryLaws

@@ -20,7 +20,7 @@ use Rattle.index_writing.specs.LaidLaws.{laid-put, laid-first}
 use Rattle.reading.specs.Rules.{rulesOf}
 use Rattle.reading.specs.ListsLaws.{width-two}
 use Rattle.reading.specs.declared.Profile.{Profile}
-use Rattle.font.specs.Font.{allFrom, lengthsOf, joinedOf, indexed, ifFormed, fontBy, flatFont, flattenFont}
+use Rattle.font.specs.Font.{Choice, allFrom, lengthsOf, joinedOf, indexed, ifFormed, fontBy, flatGlyphs, flattenGlyphs}
 use Rattle.font.specs.Code.{stringIn, strings, before, allOf, Measured, Laid, filled}
 use Rattle.font.specs.FontLaws.{length-strings, joined-total}
 use Rattle.font.specs.PassLaws.{all-written, strings-writable}
@@ -137,9 +137,9 @@ unfolding ifFormed
 let-in k x then n e = ap (λ (y : Answer ℕ). ifFormed k y then) e
 
 -- of a profile, whose counts have two bytes
-pub font-two : (p : Profile) (charstrings globals locals : List ℕ) (budget : ℕ) (out : List ℕ)
-    → into out (mapped sized (fontBy 2 (stringIn p globals locals budget) charstrings globals locals))
-    ≡ flattenFont (rulesOf p) charstrings globals locals budget out
-unfolding flattenFont flatFont
-font-two p charstrings globals locals budget out =
-    ap (λ (w : ℕ). into out (mapped sized (fontBy w (stringIn p globals locals budget) charstrings globals locals))) (sym (width-two p))
+pub font-two : (p : Profile) (choice : ℕ → Choice) (charstrings globals locals : List ℕ) (budget : ℕ) (out : List ℕ)
+    → into out (mapped sized (fontBy 2 (stringIn p globals locals budget) choice charstrings globals locals))
+    ≡ flattenGlyphs (rulesOf p) choice charstrings globals locals budget out
+unfolding flattenGlyphs flatGlyphs
+font-two p choice charstrings globals locals budget out =
+    ap (λ (w : ℕ). into out (mapped sized (fontBy w (stringIn p globals locals budget) choice charstrings globals locals))) (sym (width-two p))

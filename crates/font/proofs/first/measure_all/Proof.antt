@@ -1,7 +1,8 @@
 -- `font::first::measure_all` meets its contract. Assumes nothing.
 use mathlib.Core.Path.{_≡_, refl, sym, ap, subst, _∙_}
+use mathlib.Core.Bool.{Bool}
 use mathlib.Core.List.{List}
-use Prim.Native.Nat.{ℕ, _+_, _-_, _*_, _≤_}
+use Prim.Native.Nat.{ℕ, _+_, _-_, _*_, _<_, _≤_}
 use native.Mathlib.Omega.{arith}
 use lib.ListN.{length}
 use Rattle.number.specs.Answer.{Answer}
@@ -11,9 +12,10 @@ use Rattle.reading.specs.Reading.{Run, original}
 use Rattle.reading.specs.Answers.{flatOf, flattened, verdict}
 use Rattle.reading.specs.SameGlyphLaws.{part-bytes}
 use Rattle.charstring.specs.Run.{Begins}
-use Rattle.font.specs.Code.{glyphsOf, before, Ran, Kept, Reached, Noted}
+use Rattle.font.specs.Code.{glyphsOf, numberOf, placed, There, before, Ran, Kept, Reached, Noted}
 use Rattle.font.specs.GlyphLaws.{Flat, verdict-flat, part-here, flat-bound}
 use Rattle.font.specs.FontLaws.{ran-next, before-none, before-next}
+use Rattle.font.specs.ChoiceLaws.{there-next, asked-past}
 use Rattle.font.specs.PassLaws.{over, length-over, kept-none, kept-next}
 use Rattle.font.proofs.Verdicts.{of-run, told-stopped}
 use borrow.Author.Needs.{needs}
@@ -21,33 +23,59 @@ use Rattle.font.proofs.first.measure_all.Statement.{statement}
 use Rattle.font.proofs.first.measure_all.Tie as tie
 
 abbrev Inv-loop : tie.InvT-loop
-Inv-loop charstrings globals locals profile budget count lengths₀ joined₀ sum₀ i₀ lengths joined sum i =
-    let glyph = glyphsOf profile charstrings globals locals budget in
-    (i ≤ count) × (length lengths ≡ length lengths₀) × (length joined ≡ length joined₀) × (sum ≤ i * 35205846917115)
-    × Ran glyph i × (sum ≡ before glyph i) × Kept glyph i lengths joined
+Inv-loop charstrings globals locals profile budget count all numbers many lengths₀ joined₀ sum₀ i₀ lengths joined sum i =
+    let glyph = placed all numbers (glyphsOf profile charstrings globals locals budget) in
+    (i ≤ many) × (length lengths ≡ length lengths₀) × (length joined ≡ length joined₀) × (sum ≤ i * 35205846917115)
+    × Ran glyph i × (sum ≡ before glyph i) × Kept glyph i lengths joined × There all numbers count i
 
 abbrev μ-loop : tie.MeasureT-loop
-μ-loop charstrings globals locals profile budget count lengths₀ joined₀ sum₀ i₀ lengths joined sum i = count - i
+μ-loop charstrings globals locals profile budget count all numbers many lengths₀ joined₀ sum₀ i₀ lengths joined sum i = many - i
+
+abbrev begin : tie.At-loop Inv-loop μ-loop → tie.Start Inv-loop μ-loop
+begin c = c .before .before .before .before .before .before .before
+
+-- what each number of a glyph gives
+abbrev font : tie.Start Inv-loop μ-loop → ℕ → Answer (List ℕ)
+font c = let a = c .args in glyphsOf (a .profile) (a .charstrings .now) (a .globals .now) (a .locals .now) (a .budget)
+
+abbrev numbered : tie.Start Inv-loop μ-loop → ℕ → ℕ
+numbered c = numberOf (c .args .all) (c .args .numbers .now)
 
 -- a glyph that was run
 module _ (c : tie.After-draft Inv-loop μ-loop) where
+  abbrev at-entry : tie.After-entry-part Inv-loop μ-loop
+  at-entry = c .before .before .before
+
   abbrev turn : tie.At-loop Inv-loop μ-loop
-  turn = c .before .before .before .before .before
+  turn = at-entry .before .before .before .before
 
   abbrev start : tie.Start Inv-loop μ-loop
-  start = turn .before .before .before .before .before .before
+  start = begin turn
 
   abbrev glyph : ℕ → Answer (List ℕ)
-  glyph =
-      glyphsOf (start .args .profile) (start .args .charstrings .now) (start .args .globals .now) (start .args .locals .now) (start .args .budget)
+  glyph = placed (start .args .all) (start .args .numbers .now) (font start)
 
   abbrev rules : Rules
   rules = rulesOf (start .args .profile)
 
+  abbrev its-number : ℕ
+  its-number = numbered start (turn .loop .i)
+
   abbrev run : Run
   run =
-      original rules (part 2 (start .args .charstrings .now) (turn .loop .i)) (start .args .globals .now)
-      (start .args .locals .now) (start .args .budget)
+      original rules (part 2 (start .args .charstrings .now) its-number) (start .args .globals .now) (start .args .locals .now) (start .args .budget)
+
+  number-is : at-entry .before .before .number-at .result ≡ its-number
+  number-is = at-entry .before .before .number-at .ensures
+
+  -- the font has it
+  there : its-number < start .args .count
+  there = omega (arith, number-is)
+
+  here : at-entry .entry-part .result .now ≡ part 2 (start .args .charstrings .now) its-number
+  here =
+      part-here _ (start .args .charstrings .now) _ _ (at-entry .entry-part .ensures)
+      ∙ ap (part 2 (start .args .charstrings .now)) number-is
 
   -- as much of its flat string as there was room for
   abbrev put : List ℕ
@@ -58,7 +86,7 @@ module _ (c : tie.After-draft Inv-loop μ-loop) where
       subst
       (λ (b : List ℕ). let x = original rules b (start .args .globals .now) (start .args .locals .now) (start .args .budget) in
       (flattened (c .draft .result) ≡ verdict rules x) × Begins put (flatOf x))
-      (part-here _ (start .args .charstrings .now) (turn .loop .i) _ (c .before .before .before .entry-part .ensures)) (c .draft .ensures)
+      here (c .draft .ensures)
 
   inside : Reached (turn .loop .sum) (length (turn .loop .joined)) (c .before .before .reached .result)
   inside = c .before .before .reached .ensures
@@ -78,17 +106,44 @@ module _ (c : tie.After-known-told Inv-loop μ-loop) where
 
   bound : c .before .verdict .given .0 .0 ≤ 35205846917115
   bound =
-      let loop = turn at-draft in
+      let lent = turn at-draft .before .before .before .before in
       let a = start at-draft .args in
-      flat-bound (a .profile) (a .globals .now) (a .locals .now) (λ i. loop .before .before .before .before .shared-slice-known2 .given i .fits)
-      (λ i. loop .before .before .before .shared-slice-known3 .given i .fits) (a .budget) (start at-draft .fits .budget .fits) _
-      (part-bytes (a .charstrings .now) (λ i. loop .before .before .before .before .before .shared-slice-known .given i .fits) 2 (loop .loop .i)) _ flat
+      flat-bound (a .profile) (a .globals .now) (a .locals .now) (λ i. lent .before .shared-slice-known2 .given i .fits)
+      (λ i. lent .shared-slice-known3 .given i .fits) (a .budget) (start at-draft .fits .budget .fits) _
+      (part-bytes (a .charstrings .now) (λ i. lent .before .before .shared-slice-known .given i .fits) 2 (its-number at-draft)) _ flat
 
 loop-holds : tie.Need-loop-holds Inv-loop μ-loop
 loop-holds c =
-    let a = c .before .before .before .before .before .args in
-    let g = glyphsOf (a .profile) (a .charstrings .now) (a .globals .now) (a .locals .now) (a .budget) in
-    (omega arith, refl, refl, omega arith, (λ j h. absurd (omega arith)), sym (before-none g), kept-none g (a .lengths .now) (a .joined .now))
+    let s = c .before .before .before .before .before .before in
+    let a = s .args in
+    let g = placed (a .all) (a .numbers .now) (font s) in (
+      omega arith,
+      refl,
+      refl,
+      omega arith,
+      (λ j h. absurd (omega arith)),
+      sym (before-none g),
+      kept-none g (a .lengths .now) (a .joined .now),
+      (λ j h. absurd (omega arith)),
+    )
+
+number-at-requires : tie.Need-number-at-requires Inv-loop μ-loop
+number-at-requires c κs = search needs
+
+-- the font has no such glyph
+same-length : tie.Need-same-length Inv-loop μ-loop
+same-length c = c .before .before .before .loop .inv .1
+
+same-length-2 : tie.Need-same-length-2 Inv-loop μ-loop
+same-length-2 c = c .before .before .before .loop .inv .2
+
+returns : tie.Need-returns Inv-loop μ-loop
+returns c =
+    let turn = c .before .before .before in
+    let s = begin turn in
+    let l = turn .loop in
+    asked-past (s .args .all) (s .args .numbers .now) (s .args .count) (font s) (l .i) _ (omega arith) (l .inv .7) (l .inv .4)
+    (omega (arith, c .before .number-at .ensures))
 
 entry-part-requires : tie.Need-entry-part-requires Inv-loop μ-loop
 entry-part-requires c κs = search needs
@@ -116,18 +171,19 @@ stopped-requires c κs =
     let at-draft = c .before .before .before in
     of-run (at-draft .draft .result) (rules at-draft) (run at-draft) (c .match .keys2) (drafted at-draft .0)
 
-same-length : tie.Need-same-length Inv-loop μ-loop
-same-length c = turn (c .before .before .before .before) .loop .inv .1
+same-length-3 : tie.Need-same-length-3 Inv-loop μ-loop
+same-length-3 c = turn (c .before .before .before .before) .loop .inv .1
 
-same-length-2 : tie.Need-same-length-2 Inv-loop μ-loop
-same-length-2 c = let at-draft = c .before .before .before .before in room at-draft ∙ turn at-draft .loop .inv .2
+same-length-4 : tie.Need-same-length-4 Inv-loop μ-loop
+same-length-4 c = let at-draft = c .before .before .before .before in room at-draft ∙ turn at-draft .loop .inv .2
 
-returns : tie.Need-returns Inv-loop μ-loop
-returns c =
+returns-2 : tie.Need-returns-2 Inv-loop μ-loop
+returns-2 c =
     let at-draft = c .before .before .before .before in
+    let a = start at-draft .args in
     let l = turn at-draft .loop in
-    told-stopped (glyph at-draft) (l .i) _ _ _ _ _ (run at-draft) (c .stopped .result) (omega arith) (l .inv .4) refl (drafted at-draft .0)
-    (c .stopped .ensures)
+    told-stopped (a .all) (a .numbers .now) (a .count) (font (start at-draft)) (l .i) _ _ _ _ _ (run at-draft) (c .stopped .result) (omega arith)
+    (l .inv .7) (l .inv .4) (there at-draft) refl (drafted at-draft .0) (c .stopped .ensures)
 
 add-sum : tie.Need-add-sum Inv-loop μ-loop
 add-sum c = let l = turn (at-draft c) .loop in omega (arith, bound c, l .inv .3, l .inv .0)
@@ -164,22 +220,24 @@ loop-again c =
       kept-next g (l .i) (l .sum) (known .before .verdict .given .0 .0) (d .before .before .reached .result) (l .lengths)
           (note .last .1 .1 .1 .1 .0) (l .joined) (put d) (l .inv .5) (l .inv .6)
           (inside d) (d .draft .kept .1 .1 .1 .1 .1 .0) begins (f .long) (note .kept .1 .1 .1 .1 .0) noted,
+      there-next (start d .args .all) (start d .args .numbers .now) (start d .args .count) (font (start d)) (l .i) (l .inv .7) (there d),
     )
 
-same-length-3 : tie.Need-same-length-3 Inv-loop μ-loop
-same-length-3 c = c .before .loop .inv .1
+same-length-5 : tie.Need-same-length-5 Inv-loop μ-loop
+same-length-5 c = c .before .loop .inv .1
 
-same-length-4 : tie.Need-same-length-4 Inv-loop μ-loop
-same-length-4 c = c .before .loop .inv .2
+same-length-6 : tie.Need-same-length-6 Inv-loop μ-loop
+same-length-6 c = c .before .loop .inv .2
 
-returns-2 : tie.Need-returns-2 Inv-loop μ-loop
-returns-2 c =
+returns-3 : tie.Need-returns-3 Inv-loop μ-loop
+returns-3 c =
     let l = c .before .loop in
-    let a = c .before .before .before .before .before .before .before .args in
-    let g = glyphsOf (a .profile) (a .charstrings .now) (a .globals .now) (a .locals .now) (a .budget) in
-    let all : l .i ≡ a .count = omega (arith, l .inv .0) in
-    let few = c .before .before .before .before .before .before .before .pre .0 in (
-      record { few = few; ran = subst (Ran g) all (l .inv .4); sum-is = l .inv .5 ∙ ap (before g) all },
+    let s = begin (c .before) in
+    let a = s .args in
+    let g = placed (a .all) (a .numbers .now) (font s) in
+    let all : l .i ≡ a .many = omega (arith, l .inv .0) in (
+      subst (There (a .all) (a .numbers .now) (a .count)) all (l .inv .7),
+      record { few = s .pre .0; ran = subst (Ran g) all (l .inv .4); sum-is = l .inv .5 ∙ ap (before g) all },
       subst (λ (n : ℕ). Kept g n (l .lengths) (l .joined)) all (l .inv .6),
     )
 
@@ -190,6 +248,10 @@ measure-all-spec =
     Inv-loop
     μ-loop
     loop-holds
+    number-at-requires
+    same-length
+    same-length-2
+    returns
     entry-part-requires
     reached-requires
     sub-draft
@@ -198,14 +260,14 @@ measure-all-spec =
     draft-requires
     enum-known-verdict
     stopped-requires
-    same-length
-    same-length-2
-    returns
+    same-length-3
+    same-length-4
+    returns-2
     add-sum
     note-requires
     add-i
     loop-less
     loop-again
-    same-length-3
-    same-length-4
-    returns-2)
+    same-length-5
+    same-length-6
+    returns-3)

@@ -6,7 +6,7 @@ use lib.Seq.{length-take-le}
 use Rattle.number.specs.Answer.{Answer}
 use Rattle.index_writing.specs.Writing.{sizeFor, reachOf, indexPlan}
 use Rattle.index_writing.specs.WritingLaws.{planned, unplanned}
-use Rattle.font.specs.Code.{glyphsOf}
+use Rattle.font.specs.Code.{glyphsOf, placed}
 use Rattle.font.specs.WholeLaws.{plan-over, plan-short, plan-laid, plan-written}
 use borrow.Author.Needs.{needs}
 use Rattle.font.proofs.second.write_all.Statement.{statement}
@@ -14,12 +14,14 @@ use Rattle.font.proofs.second.write_all.Tie as tie
 
 module _ (c : tie.Start) where
   abbrev glyph : ℕ → Answer (List ℕ)
-  glyph = glyphsOf (c .args .profile) (c .args .charstrings .now) (c .args .globals .now) (c .args .locals .now) (c .args .budget)
+  glyph =
+      let a = c .args in
+      placed (a .all) (a .numbers .now) (glyphsOf (a .profile) (a .charstrings .now) (a .globals .now) (a .locals .now) (a .budget))
 
 -- there is a plan
 module _ (c : tie.After-known-told) where
   abbrev start : tie.Start
-  start = c .before .before .before .before .before .before .before .before
+  start = c .before .before .before .before .before .before .before .before .before
 
   abbrev size : ℕ
   size = c .before .size .given .0 .0
@@ -28,7 +30,7 @@ module _ (c : tie.After-known-told) where
   needed = c .before .size .given .0 .1 .0
 
   plan : (start .args .sum + 1 ≤ 4294967295) × (size ≡ sizeFor (start .args .sum + 1))
-      × (needed ≡ reachOf 2 (start .args .count) size (start .args .sum))
+      × (needed ≡ reachOf 2 (start .args .many) size (start .args .sum))
   plan = planned _ _ _ _ _ (ap indexPlan (sym (c .before .size .given .1)) ∙ c .before .before .before .plan-index .ensures)
 
 plan-index-requires : tie.Need-plan-index-requires
@@ -42,15 +44,15 @@ enum-told c = search needs
 
 returns : tie.Need-returns
 returns c =
-    let s = c .before .before .before .before .before .before .before in
+    let s = c .before .before .before .before .before .before .before .before in
     let none = unplanned 2 _ _ (ap indexPlan (sym (c .enum-told .given .1)) ∙ c .before .before .plan-index .ensures) in
-    plan-over (glyph s) (s .args .count) 0 (s .args .out .now) (s .args .sum) (s .pre) none
+    plan-over (glyph s) (s .args .many) 0 (s .args .out .now) (s .args .sum) (s .pre) none
 
 returns-2 : tie.Need-returns-2
 returns-2 c =
     let k = c .before in
     let s = start k in
-    plan-short (glyph s) (s .args .count) (size k) (s .args .out .now) (s .args .sum) (s .pre) (needed k) (plan k) (c .if1 .taken)
+    plan-short (glyph s) (s .args .many) (size k) (s .args .out .now) (s .args .sum) (s .pre) (needed k) (plan k) (c .if1 .taken)
 
 slice-relend-prefix-put-font : tie.Need-slice-relend-prefix-put-font
 slice-relend-prefix-put-font c = search needs
@@ -62,7 +64,7 @@ put-font-requires : tie.Need-put-font-requires
 put-font-requires c κs =
     let k = c .before .before in
     let s = start k in
-    plan-laid (glyph s) (s .args .count) (size k) (s .args .out .now) (s .args .sum) (s .pre) (needed k) (plan k) (c .before .if1 .left)
+    plan-laid (glyph s) (s .args .many) (size k) (s .args .out .now) (s .args .sum) (s .pre) (needed k) (plan k) (c .before .if1 .left)
 
 same-length : tie.Need-same-length
 same-length c = search needs
@@ -71,7 +73,7 @@ returns-3 : tie.Need-returns-3
 returns-3 c =
     let k = c .before .before .before .before .before in
     let s = start k in
-    plan-written (glyph s) (s .args .count) (size k) (s .args .out .now) (s .args .sum) (s .pre) (needed k) (plan k)
+    plan-written (glyph s) (s .args .many) (size k) (s .args .out .now) (s .args .sum) (s .pre) (needed k) (plan k)
     (c .before .before .before .before .if1 .left) _ (c .before .before .put-font .ensures)
 
 pub write-all-spec : {M : Type 1} → statement M
