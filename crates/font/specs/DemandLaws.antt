@@ -289,17 +289,19 @@ font-demand rules choice charstrings globals locals budget out n bytes g l e =
 -- ---- a whole font is what comes of all its numbers in order
 
 module _ (rules : Rules) (numbers charstrings globals locals : List ℕ) (budget : ℕ) where
+  abbrev glyphs : ℕ → ℕ → Answer (List ℕ)
+  glyphs n = within n (λ i. flatIn rules (original rules (part (rules .width) charstrings i) globals locals budget))
+
   abbrev written : (ℕ → Choice) → ℕ → Answer (List ℕ)
-  written choice n =
-      indexed (rules .width) (chosen (rules .width) (choice n)
-      (within n (λ i. flatIn rules (original rules (part (rules .width) charstrings i) globals locals budget))))
+  written choice n = indexed (rules .width) (chosen (rules .width) (choice n) (glyphs n))
 
   in-order : (n : ℕ) → length numbers ≡ n → ((k : ℕ) → k < n → getD numbers k 0 ≡ k) → written (these numbers) n ≡ written every n
   unfolding chosen
   in-order n e f =
-      ap (λ (a : Answer (List (List ℕ))). indexed (rules .width) (cond (leb (2 ^ (8 * rules .width)) (length numbers)) (refused 22 alone) a))
-      (all-alike _ _ 0 (length numbers) (λ k h. ap (within n _) (f k (omega arith))))
-      ∙ ap (λ (m : ℕ). indexed (rules .width) (cond (leb (2 ^ (8 * rules .width)) m) (refused 22 alone) (allFrom (λ k. within n _ k) 0 m))) e
+      let over : ℕ → Bool = λ m. leb (2 ^ (8 * rules .width)) m in
+      ap (λ (a : Answer (List (List ℕ))). indexed (rules .width) (cond (over (length numbers)) (refused 22 alone) a))
+      (all-alike (glyphs n) (λ k. glyphs n (getD numbers k 0)) 0 (length numbers) (λ k h. ap (glyphs n) (f k (omega arith))))
+      ∙ ap (λ (m : ℕ). indexed (rules .width) (cond (over m) (refused 22 alone) (allFrom (glyphs n) 0 m))) e
 
   by-count : (f : Answer ℕ) → ((n : ℕ) → f ≡ accepted n → written (these numbers) n ≡ written every n)
       → ifFormed 26 f (written (these numbers)) ≡ ifFormed 26 f (written every)
