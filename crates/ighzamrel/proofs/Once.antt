@@ -1,12 +1,14 @@
 -- Each C function's contract fixes its answer and what it leaves at each place. Assumes nothing.
 use mathlib.Core.Path.{_≡_, sym, ap, _∙_}
+use mathlib.Core.List.{List}
+use Prim.Native.Nat.{ℕ}
 use lib.IntN.{ℤ}
 use borrow.Fn.Kinds.{Dens, resT, endedOf}
 use contract.Lifetimes.{Lfts}
 use denote.Triple.Clauses.{AtExit}
-use Rattle.number.specs.Answer.{Outcome}
+use Rattle.number.specs.Answer.{Outcome, leaving}
 use Rattle.index.specs.Index.{Extent, Place}
-use Rattle.ighzamrel.specs.Told.{Told, NumberPlaces, IntegerPlaces, ListPlaces, FlatPlaces, ToldMarked, ToldExplained, FontPlaces}
+use Rattle.ighzamrel.specs.Told.{Told, told, NumberPlaces, IntegerPlaces, ListPlaces, FlatPlaces, ToldMarked, ToldExplained, FontPlaces}
 use Rattle.ighzamrel.proofs.numbers.ighzamrel_read_charstring_number.Kinds as charstring-kinds
 use Rattle.ighzamrel.proofs.numbers.ighzamrel_read_charstring_number.Reads as charstring-reads
 use Rattle.ighzamrel.proofs.numbers.ighzamrel_read_dict_integer.Kinds as dict-kinds
@@ -33,6 +35,8 @@ use Rattle.ighzamrel.proofs.explaining.ighzamrel_explain.Kinds as expla
 use Rattle.ighzamrel.proofs.explaining.ighzamrel_explain.Reads as explain-reads
 use Rattle.ighzamrel.proofs.fonts.ighzamrel_flatten_font.Kinds as font-kinds
 use Rattle.ighzamrel.proofs.fonts.ighzamrel_flatten_font.Reads as font-reads
+use Rattle.ighzamrel.proofs.fonts.ighzamrel_flatten_glyphs.Kinds as glyphs-kinds
+use Rattle.ighzamrel.proofs.fonts.ighzamrel_flatten_glyphs.Reads as glyphs-reads
 
 -- Of x, what each parameter is at the end in their order: `x .0` is the first, `x .1 .0` the second, `x .1 .1 .0` the third, and so on.
 
@@ -182,6 +186,21 @@ explain-once κs a r r′ x x′ p p′ =
       ap (λ (t : ToldExplained). t .calls) e,
     )
 
+-- what is told and left of glyphs of a font
+font-once : {r r′ : ℕ} {y y′ : FontPlaces} {l l′ : List ℕ} → leaving (told r y) l ≡ leaving (told r′ y′) l′
+    → (r ≡ r′) × (l ≡ l′) × (y .length ≡ y′ .length) × (y .glyph ≡ y′ .glyph) × (y .tokens ≡ y′ .tokens) × (y .entry ≡ y′ .entry)
+    × (y .reason ≡ y′ .reason)
+font-once e =
+    let w = written-once e in (
+      w .0,
+      w .1,
+      ap (λ (p : FontPlaces). p .length) (w .2),
+      ap (λ (p : FontPlaces). p .glyph) (w .2),
+      ap (λ (p : FontPlaces). p .tokens) (w .2),
+      ap (λ (p : FontPlaces). p .entry) (w .2),
+      ap (λ (p : FontPlaces). p .reason) (w .2),
+    )
+
 pub flatten-font-once : (κs : Lfts 7) (a : Dens κs font-kinds.ps) (r r′ : resT font-kinds.r κs .Denot)
     (x x′ : AtExit (endedOf 7 font-kinds.ps font-kinds.r) κs)
     → font-reads.Post κs a r x → font-reads.Post κs a r′ x′
@@ -189,13 +208,14 @@ pub flatten-font-once : (κs : Lfts 7) (a : Dens κs font-kinds.ps) (r r′ : re
     × (x .1 .1 .1 .1 .1 .1 .1 .0 .now ≡ x′ .1 .1 .1 .1 .1 .1 .1 .0 .now) × (x .1 .1 .1 .1 .1 .1 .1 .1 .0 .now ≡ x′ .1 .1 .1 .1 .1 .1 .1 .1 .0 .now)
     × (x .1 .1 .1 .1 .1 .1 .1 .1 .1 .0 .now ≡ x′ .1 .1 .1 .1 .1 .1 .1 .1 .1 .0 .now)
     × (x .1 .1 .1 .1 .1 .1 .1 .1 .1 .1 .0 .now ≡ x′ .1 .1 .1 .1 .1 .1 .1 .1 .1 .1 .0 .now)
-flatten-font-once κs a r r′ x x′ p p′ =
-    let w = written-once (p ∙ sym p′) in (
-      w .0,
-      w .1,
-      ap (λ (y : FontPlaces). y .length) (w .2),
-      ap (λ (y : FontPlaces). y .glyph) (w .2),
-      ap (λ (y : FontPlaces). y .tokens) (w .2),
-      ap (λ (y : FontPlaces). y .entry) (w .2),
-      ap (λ (y : FontPlaces). y .reason) (w .2),
-    )
+flatten-font-once κs a r r′ x x′ p p′ = font-once (p ∙ sym p′)
+
+pub flatten-glyphs-once : (κs : Lfts 8) (a : Dens κs glyphs-kinds.ps) (r r′ : resT glyphs-kinds.r κs .Denot)
+    (x x′ : AtExit (endedOf 8 glyphs-kinds.ps glyphs-kinds.r) κs)
+    → glyphs-reads.Post κs a r x → glyphs-reads.Post κs a r′ x′
+    → (r ≡ r′) × (x .1 .1 .1 .1 .1 .1 .0 .now ≡ x′ .1 .1 .1 .1 .1 .1 .0 .now)
+    × (x .1 .1 .1 .1 .1 .1 .1 .0 .now ≡ x′ .1 .1 .1 .1 .1 .1 .1 .0 .now) × (x .1 .1 .1 .1 .1 .1 .1 .1 .0 .now ≡ x′ .1 .1 .1 .1 .1 .1 .1 .1 .0 .now)
+    × (x .1 .1 .1 .1 .1 .1 .1 .1 .1 .0 .now ≡ x′ .1 .1 .1 .1 .1 .1 .1 .1 .1 .0 .now)
+    × (x .1 .1 .1 .1 .1 .1 .1 .1 .1 .1 .0 .now ≡ x′ .1 .1 .1 .1 .1 .1 .1 .1 .1 .1 .0 .now)
+    × (x .1 .1 .1 .1 .1 .1 .1 .1 .1 .1 .1 .0 .now ≡ x′ .1 .1 .1 .1 .1 .1 .1 .1 .1 .1 .1 .0 .now)
+flatten-glyphs-once κs a r r′ x x′ p p′ = font-once (p ∙ sym p′)

@@ -14,9 +14,8 @@ use Rattle.reading.specs.Reading.{original}
 use Rattle.reading.specs.StopLaws.{judged-refused, refusal-within}
 use Rattle.reading.specs.Answers.{Flattening, judged, outcome, listGate, roomAsLent, flattening}
 use Rattle.reading.specs.Entered.{Lent, Marked, asLent, rowsFit, markedBy, marking}
-use Rattle.reading.specs.Tokens.{Bytes}
-use Rattle.font.specs.Font.{flattenFont}
-use Rattle.font.specs.Demands.{Why, bad-globals, bad-locals, bad-charstrings, bad-glyph, too-long, no-room}
+use Rattle.font.specs.Font.{Choice, flattenGlyphs}
+use Rattle.font.specs.Demands.{Why, bad-globals, bad-locals, bad-charstrings, too-many, no-glyph, bad-glyph, too-long, no-room}
 use Rattle.font.specs.RefusalLaws.{refusal-demand}
 use Rattle.reading.specs.declared.Advance.{Advance}
 use Rattle.reading.specs.declared.Advance.the-variants.{Default, Given}
@@ -93,26 +92,29 @@ unfolding tell
 told-accepted (accepted x) old p h e = told-back x old ∙ ap (λ (t : Told FlatPlaces). accepted (flatTold (t .places))) (sym e)
 told-accepted (refused n v) old p h e = let z : 0 ≡ n = ap (λ (t : Told FlatPlaces). t .number) e in absurd (omega arith)
 
--- ---- of a whole font
+-- ---- of glyphs of a font
 
 -- a refusal is one of those that may come
-pub why-numbered : (rules : Rules) (charstrings globals locals : List ℕ) (budget : ℕ) (out : List ℕ) (k : ℕ) (v : Values)
-    → Why rules charstrings globals locals budget out k v → 0 < k
-why-numbered rules charstrings globals locals budget out k₁ v₁ (bad-globals k v e) = lit< tt
-why-numbered rules charstrings globals locals budget out k₁ v₁ (bad-locals k v g e) = lit< tt
-why-numbered rules charstrings globals locals budget out k₁ v₁ (bad-charstrings k v g l e) = lit< tt
-why-numbered rules charstrings globals locals budget out k₁ v₁ (bad-glyph n i k v f h r a b) = omega (arith, refusal-within rules k r .0)
-why-numbered rules charstrings globals locals budget out k₁ v₁ (too-long fs f a h) = lit< tt
-why-numbered rules charstrings globals locals budget out k₁ v₁ (no-room F f h) = lit< tt
+pub why-numbered : (rules : Rules) (choice : ℕ → Choice) (charstrings globals locals : List ℕ) (budget : ℕ) (out : List ℕ) (k : ℕ) (v : Values)
+    → Why rules choice charstrings globals locals budget out k v → 0 < k
+why-numbered rules choice charstrings globals locals budget out k₁ v₁ (bad-globals k v e) = lit< tt
+why-numbered rules choice charstrings globals locals budget out k₁ v₁ (bad-locals k v g e) = lit< tt
+why-numbered rules choice charstrings globals locals budget out k₁ v₁ (bad-charstrings k v g l e) = lit< tt
+why-numbered rules choice charstrings globals locals budget out k₁ v₁ (too-many n g l c h) = lit< tt
+why-numbered rules choice charstrings globals locals budget out k₁ v₁ (no-glyph n i c h p b) = lit< tt
+why-numbered rules choice charstrings globals locals budget out k₁ v₁ (bad-glyph n i k v f h t r a b) = omega (arith, refusal-within rules k r .0)
+why-numbered rules choice charstrings globals locals budget out k₁ v₁ (too-long n fs f m a h) = lit< tt
+why-numbered rules choice charstrings globals locals budget out k₁ v₁ (no-room F f h) = lit< tt
 
-pub numbered-font : (rules : Rules) (charstrings globals locals : List ℕ) (budget : ℕ) (out : List ℕ) → Bytes charstrings
-    → Numbered (flattenFont rules charstrings globals locals budget out .answer)
-numbered-font rules charstrings globals locals budget out bytes = go (flattenFont rules charstrings globals locals budget out .answer) refl
+pub numbered-font : (rules : Rules) (choice : ℕ → Choice) (charstrings globals locals : List ℕ) (budget : ℕ) (out : List ℕ)
+    → Numbered (flattenGlyphs rules choice charstrings globals locals budget out .answer)
+numbered-font rules choice charstrings globals locals budget out =
+    go (flattenGlyphs rules choice charstrings globals locals budget out .answer) refl
   where
-    go : (a : Answer ℕ) → flattenFont rules charstrings globals locals budget out .answer ≡ a → Numbered a
+    go : (a : Answer ℕ) → flattenGlyphs rules choice charstrings globals locals budget out .answer ≡ a → Numbered a
     go (accepted n) e = tt
     go (refused k v) e =
-        why-numbered rules charstrings globals locals budget out k v (refusal-demand rules charstrings globals locals budget out k v bytes e .0)
+        why-numbered rules choice charstrings globals locals budget out k v (refusal-demand rules choice charstrings globals locals budget out k v e .0)
 
 pub told-written : (a : Answer ℕ) (old p : FontPlaces) → Numbered a → told 0 p ≡ tell fontPlaces fontPlacesOr a old → a ≡ accepted (p .length)
 unfolding tell

@@ -18,6 +18,7 @@ use Rattle.reading.specs.Flat.{straight}
 use Rattle.reading.specs.Masks.{CleanMasks}
 use Rattle.reading.specs.Demands.{EndcharLast, LastByte}
 use Rattle.reading.specs.DemandLaws.{masks-clean, ends-in-endchar as last-item, ends-in-14, never-eight}
+use Rattle.font.specs.Font.{every, these}
 use Rattle.font.specs.RefusalLaws.{never-eight as never-eight-font}
 use Rattle.reading.specs.declared.Operator.{Operator}
 use Rattle.reading.specs.declared.Profile.{Profile}
@@ -28,6 +29,8 @@ use Rattle.ighzamrel.proofs.flattening.ighzamrel_flatten.Kinds as kinds
 use Rattle.ighzamrel.proofs.flattening.ighzamrel_flatten.Reads as reads
 use Rattle.ighzamrel.proofs.fonts.ighzamrel_flatten_font.Kinds as font-kinds
 use Rattle.ighzamrel.proofs.fonts.ighzamrel_flatten_font.Reads as font-reads
+use Rattle.ighzamrel.proofs.fonts.ighzamrel_flatten_glyphs.Kinds as glyphs-kinds
+use Rattle.ighzamrel.proofs.fonts.ighzamrel_flatten_glyphs.Reads as glyphs-reads
 
 -- C's profile is strict where it is not 0
 is-clean : (p : ℕ) → (p ≡ 0 → ⊥) → rulesOf (profileOf p) .clean ≡ true
@@ -86,11 +89,20 @@ module _ (κs : Lfts 8) (a : Dens κs kinds.ps) (x : AtExit (endedOf 8 kinds.ps 
             locals-bytes accepted-so (is-finished p in-strict) (both-type2 (profileOf p)),
       )
 
--- a call of `ighzamrel_flatten_font` in strict does not answer 8; of its masks and of how each string ends `says-the-same` tells (FontDemands.antt)
+-- calls of `ighzamrel_flatten_font` and `ighzamrel_flatten_glyphs` in strict do not answer 8; of their masks and of how each string ends
+-- `says-the-same` tells (FontDemands.antt)
 module _ (κs : Lfts 7) (a : Dens κs font-kinds.ps) (x : AtExit (endedOf 7 font-kinds.ps font-kinds.r) κs) (in-strict : a .1 .1 .1 .0 ≡ 0 → ⊥)
     (charstrings-bytes : Bytes (a .0 .now)) (globals-bytes : Bytes (a .1 .0 .now)) (locals-bytes : Bytes (a .1 .1 .0 .now)) where
   pub font-not-eight : font-reads.Post κs a 8 x → ⊥
   font-not-eight e =
       tells-eight _ _ _ _ _ (answer-as e)
-      (λ v. never-eight-font (rulesOf (profileOf (a .1 .1 .1 .0))) (a .0 .now) (a .1 .0 .now) (a .1 .1 .0 .now) (a .1 .1 .1 .1 .0)
+      (λ v. never-eight-font (rulesOf (profileOf (a .1 .1 .1 .0))) every (a .0 .now) (a .1 .0 .now) (a .1 .1 .0 .now) (a .1 .1 .1 .1 .0)
       (a .1 .1 .1 .1 .1 .0 .now) v charstrings-bytes globals-bytes locals-bytes (is-clean (a .1 .1 .1 .0) in-strict))
+
+module _ (κs : Lfts 8) (a : Dens κs glyphs-kinds.ps) (x : AtExit (endedOf 8 glyphs-kinds.ps glyphs-kinds.r) κs) (in-strict : a .1 .1 .1 .1 .0 ≡ 0 → ⊥)
+    (charstrings-bytes : Bytes (a .0 .now)) (globals-bytes : Bytes (a .1 .1 .0 .now)) (locals-bytes : Bytes (a .1 .1 .1 .0 .now)) where
+  pub glyphs-not-eight : glyphs-reads.Post κs a 8 x → ⊥
+  glyphs-not-eight e =
+      tells-eight _ _ _ _ _ (answer-as e)
+      (λ v. never-eight-font (rulesOf (profileOf (a .1 .1 .1 .1 .0))) (these (a .1 .0 .now)) (a .0 .now) (a .1 .1 .0 .now) (a .1 .1 .1 .0 .now)
+      (a .1 .1 .1 .1 .1 .0) (a .1 .1 .1 .1 .1 .1 .0 .now) v charstrings-bytes globals-bytes locals-bytes (is-clean (a .1 .1 .1 .1 .0) in-strict))
