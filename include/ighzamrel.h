@@ -20,9 +20,9 @@
  * of the charstring: at 64 strings deep, the most in plain, it used less than 48 KiB of stack, at 11, the most
  * in strict, less than 11 KiB; ighzamrel_explain likewise.
  * ighzamrel_flatten_marked keeps the marks in 16 KiB of stack besides: it used less than 64 KiB in plain, less than
- * 28 KiB in strict. ighzamrel_flatten_font keeps what it can of a font in 64 KiB besides: it used less than 112 KiB in
- * plain, less than 80 KiB in strict. Each other function used less than 200 bytes (x86-64; docs/BENCHMARKS.md says how
- * that was measured).
+ * 28 KiB in strict. ighzamrel_flatten_font and ighzamrel_flatten_glyphs keep what they can of a font in 64 KiB besides:
+ * they used less than 112 KiB in plain, less than 80 KiB in strict. Each other function used less than 200 bytes (x86-64;
+ * docs/BENCHMARKS.md says how that was measured).
  *
  * Each function stands in a section of its own, so a program that is linked with --gc-sections has what it calls
  * and no more.
@@ -259,7 +259,7 @@ uint32_t ighzamrel_flatten_font(const uint8_t *charstrings, size_t charstrings_l
                                 uint32_t budget, uint8_t *out, size_t out_len, size_t *length, uint32_t *glyph,
                                 uint32_t *tokens, uint32_t *entry, uint32_t *reason);
 
-/* What ighzamrel_flatten_font answers and sets. A later version may have more, behind these. */
+/* What ighzamrel_flatten_font and ighzamrel_flatten_glyphs answer and set. A later version may have more, behind these. */
 typedef struct ighzamrel_font_flattening {
     uint32_t answer;
     size_t length;
@@ -283,6 +283,39 @@ static inline uint32_t ighzamrel_flatten_font_into(const uint8_t *charstrings, s
     result->answer = ighzamrel_flatten_font(charstrings, charstrings_len, globals, globals_len, locals, locals_len,
                                             profile, budget, out, out_len, &result->length, &result->glyph,
                                             &result->tokens, &result->entry, &result->reason);
+    return result->answer;
+}
+
+/*
+ * Writes the INDEX of the flat strings of those glyphs of a font that `numbers` has, in its order and as often as it has
+ * them, to the start of out; so what is embedded of a font need not be all of it. All else is as ighzamrel_flatten_font
+ * does it, and that is this with all numbers from 0 on. With no numbers the INDEX is 00 00.
+ * The answer is the first of these that holds. 1, 2, 26: as there. 22, where there are over 65535 numbers: no place. Then
+ * the places of `numbers` in their order, and the first that is refused decides: 25, where the font has no glyph of that
+ * number: *glyph, the place, counted from 0; 3 to 12, 15 or 16, of the glyph of that number: *glyph, the place, and at 3
+ * to 12 its *tokens. 23, 13, 0: as there. A glyph that `numbers` has not is not run, so it refuses nothing.
+ */
+uint32_t ighzamrel_flatten_glyphs(const uint8_t *charstrings, size_t charstrings_len, const uint32_t *numbers,
+                                  size_t numbers_len, const uint8_t *globals, size_t globals_len, const uint8_t *locals,
+                                  size_t locals_len, uint32_t profile, uint32_t budget, uint8_t *out, size_t out_len,
+                                  size_t *length, uint32_t *glyph, uint32_t *tokens, uint32_t *entry,
+                                  uint32_t *reason);
+
+/* Calls ighzamrel_flatten_glyphs with the places of *result, and gives its answer; what that does not set is 0. */
+static inline uint32_t ighzamrel_flatten_glyphs_into(const uint8_t *charstrings, size_t charstrings_len,
+                                                     const uint32_t *numbers, size_t numbers_len,
+                                                     const uint8_t *globals, size_t globals_len, const uint8_t *locals,
+                                                     size_t locals_len, uint32_t profile, uint32_t budget, uint8_t *out,
+                                                     size_t out_len, ighzamrel_font_flattening *result)
+{
+    result->length = 0;
+    result->glyph = 0;
+    result->tokens = 0;
+    result->entry = 0;
+    result->reason = 0;
+    result->answer = ighzamrel_flatten_glyphs(charstrings, charstrings_len, numbers, numbers_len, globals, globals_len,
+                                              locals, locals_len, profile, budget, out, out_len, &result->length,
+                                              &result->glyph, &result->tokens, &result->entry, &result->reason);
     return result->answer;
 }
 

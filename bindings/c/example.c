@@ -1,6 +1,6 @@
 /*
  * One charstring made flat, the same charstring refused, and a list of subroutines that is damaged; the glyphs of a
- * whole font; what the strict profile refuses beyond the plain one; charstrings that say their width; which
+ * whole font, and those of them that a text needs; what the strict profile refuses beyond the plain one; charstrings that say their width; which
  * subroutines a charstring uses; and where a refused one is refused, through its calls.
  *
  *     cc example.c $(pkg-config --cflags --libs ighzamrel)
@@ -27,6 +27,8 @@ static const char *in_words(uint32_t answer)
     case IGHZAMREL_OPERANDS_AT_MASK: return "the glyph has operands at a hint mask that takes none";
     case IGHZAMREL_NO_ENDCHAR: return "the glyph comes to its end without endchar";
     case IGHZAMREL_SHORT: return "the result is longer than the room for it";
+    case IGHZAMREL_TOO_MANY_ELEMENTS: return "more glyphs are asked for than an INDEX can have";
+    case IGHZAMREL_PAST_COUNT: return "the font has no glyph of that number";
     case IGHZAMREL_BAD_CHARSTRINGS: return "the font's list of glyphs is damaged";
     case IGHZAMREL_ROW_TOO_SHORT: return "a row is too short for the font's list of subroutines";
     default: return "the glyph's charstring is damaged or not supported";
@@ -96,13 +98,14 @@ static void show(uint32_t profile, const uint8_t *charstring, size_t charstring_
     show_bytes(out, flat.length);
 }
 
-/* 1, 2 and 26 come with a reason, 3 to 12, 15 and 16 with the first glyph that is refused. */
-static void explain_font(const ighzamrel_font_flattening *flat)
+/* 1, 2 and 26 come with a reason, 3 to 12, 15, 16 and 25 with the first that is refused, a glyph's number or its place. */
+static void explain_font(const ighzamrel_font_flattening *flat, const char *what, const char *first)
 {
-    printf("the font is refused with %u", (unsigned)flat->answer);
+    printf("%s refused with %u", what, (unsigned)flat->answer);
     if ((flat->answer >= IGHZAMREL_BUDGET_SPENT && flat->answer <= IGHZAMREL_COMPOSITE) ||
-        flat->answer == IGHZAMREL_OPERANDS_AT_MASK || flat->answer == IGHZAMREL_NO_ENDCHAR)
-        printf(" at glyph %u", (unsigned)flat->glyph);
+        flat->answer == IGHZAMREL_OPERANDS_AT_MASK || flat->answer == IGHZAMREL_NO_ENDCHAR ||
+        flat->answer == IGHZAMREL_PAST_COUNT)
+        printf(" at %s %u", first, (unsigned)flat->glyph);
     printf(": %s", in_words(flat->answer));
     if (flat->reason == 0) {
         printf("\n");
@@ -119,11 +122,38 @@ static void show_font(uint32_t profile, const uint8_t *charstrings, size_t chars
     ighzamrel_font_flattening flat;
     if (ighzamrel_flatten_font_into(charstrings, charstrings_len, no_list, sizeof no_list, locals, locals_len, profile,
                                     BUDGET, out, sizeof out, &flat) != IGHZAMREL_ACCEPTED) {
-        explain_font(&flat);
+        explain_font(&flat, "the font is", "glyph");
         return;
     }
     printf("the INDEX of all flat strings, %u bytes:", (unsigned)flat.length);
     show_bytes(out, flat.length);
+}
+
+/* The glyphs that a text needs, in its order: what of the font goes into the document. */
+static void show_glyphs(const uint8_t *charstrings, size_t charstrings_len, const uint32_t *numbers, size_t numbers_len,
+                        const uint8_t *locals, size_t locals_len)
+{
+    uint8_t out[ROOM];
+    ighzamrel_font_flattening flat;
+    if (ighzamrel_flatten_glyphs_into(charstrings, charstrings_len, numbers, numbers_len, no_list, sizeof no_list, locals,
+                                      locals_len, IGHZAMREL_PLAIN, BUDGET, out, sizeof out, &flat) != IGHZAMREL_ACCEPTED) {
+        explain_font(&flat, "the glyphs are", "place");
+        return;
+    }
+    printf("the INDEX of %u flat strings, %u bytes:", (unsigned)numbers_len, (unsigned)flat.length);
+    show_bytes(out, flat.length);
+}
+
+static void asked_for(void)
+{
+    /* endchar, a call of local 0, which is 1 2 rmoveto, and 2 hmoveto; of these the last, the second and the last again */
+    static const uint8_t glyphs[] = {0x00, 0x03, 0x01, 0x01, 0x02, 0x05, 0x08, 0x0E, 0x20, 0x0A, 0x0E, 0x8D, 0x16, 0x0E};
+    static const uint8_t locals[] = {0x00, 0x01, 0x01, 0x01, 0x05, 0x8C, 0x8D, 0x15, 0x0B};
+    static const uint32_t numbers[] = {2, 1, 2}, absent[] = {2, 0, 3};
+    show_glyphs(glyphs, sizeof glyphs, numbers, 3, locals, sizeof locals);
+    show_glyphs(glyphs, sizeof glyphs, numbers, 0, locals, sizeof locals);
+    show_glyphs(glyphs, sizeof glyphs, numbers, 3, no_list, sizeof no_list);
+    show_glyphs(glyphs, sizeof glyphs, absent, 3, locals, sizeof locals);
 }
 
 /* A list by itself, as a font editor would look at it. */
@@ -277,6 +307,7 @@ int main(void)
     show_font(IGHZAMREL_STRICT, unfinished_font, sizeof unfinished_font, no_list, sizeof no_list);
     show(IGHZAMREL_PLAIN, wide, sizeof wide, locals, sizeof locals);
     show(IGHZAMREL_PLAIN, narrow, sizeof narrow, no_list, sizeof no_list);
+    asked_for();
     used();
     explained();
     return 0;

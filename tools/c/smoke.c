@@ -6,6 +6,7 @@
 
 #include "expect.h"
 #include "explained.h"
+#include "fonts.h"
 #include "marked.h"
 
 static void numbers_read(const uint8_t *bytes, size_t n, uint32_t answer, uint32_t kind, int32_t value, size_t width)
@@ -329,106 +330,6 @@ static void ends(void)
     rows_hold(rows, sizeof rows / sizeof rows[0]);
 }
 
-/* The three INDEXes of a font: CharStrings, globals and locals. */
-struct font {
-    const uint8_t *charstrings;
-    size_t charstrings_len;
-    const uint8_t *globals;
-    size_t globals_len;
-    const uint8_t *locals;
-    size_t locals_len;
-};
-
-/* Flattens a font, as `flattened` does a charstring. */
-static void font_flattened(const struct font *font, const uint32_t limits[3], const ighzamrel_font_flattening *must,
-                           const uint8_t *flat)
-{
-    ighzamrel_font_flattening result;
-    clear();
-    EXPECT(ighzamrel_flatten_font(font->charstrings, font->charstrings_len, font->globals, font->globals_len, font->locals,
-                                  font->locals_len, limits[0], limits[1], out, limits[2], &length, &glyph, &tokens, &entry,
-                                  &reason) == must->answer);
-    EXPECT(length == must->length && glyph == must->glyph && tokens == must->tokens);
-    EXPECT(entry == must->entry && reason == must->reason);
-    EXPECT(flat == NULL ? blank() : holds(flat, length));
-    clear();
-    memset(&result, BLANK, sizeof result);
-    EXPECT(ighzamrel_flatten_font_into(font->charstrings, font->charstrings_len, font->globals, font->globals_len, font->locals,
-                                       font->locals_len, limits[0], limits[1], out, limits[2], &result) == must->answer);
-    EXPECT(result.answer == must->answer && result.length == given(must->length) && result.glyph == given(must->glyph));
-    EXPECT(result.tokens == given(must->tokens) && result.entry == given(must->entry) && result.reason == given(must->reason));
-    EXPECT(flat == NULL ? blank() : holds(flat, result.length));
-}
-
-/* A font with L as its local list, with what it must answer. */
-struct font_row {
-    const uint8_t *charstrings;
-    size_t charstrings_len;
-    uint32_t limits[3];
-    uint32_t answer;
-    size_t length;
-    uint32_t glyph;
-    uint32_t tokens;
-    const uint8_t *flat;
-};
-
-static void fonts(void)
-{
-    /* three glyphs: -107 callsubr endchar, no bytes, and 5 endchar with the 5 in three bytes */
-    static const uint8_t three[] = {0x00, 0x03, 0x01, 0x01, 0x04, 0x04, 0x08, 0x20, 0x0A, 0x0E, 0x1C, 0x00, 0x05, 0x0E};
-    static const uint8_t three_flat[] = {0x00, 0x03, 0x01, 0x01, 0x05, 0x05, 0x07, 0x8C, 0x8D, 0x15, 0x0E, 0x90, 0x0E};
-    /* the same without the one that has no bytes, for which strict refuses it: 16 comes with the glyph alone */
-    static const uint8_t two[] = {0x00, 0x02, 0x01, 0x01, 0x04, 0x08, 0x20, 0x0A, 0x0E, 0x1C, 0x00, 0x05, 0x0E};
-    static const uint8_t two_flat[] = {0x00, 0x02, 0x01, 0x01, 0x05, 0x07, 0x8C, 0x8D, 0x15, 0x0E, 0x90, 0x0E};
-    /* endchar, -106 callsubr, and a byte that is no operator: the second is the first that is refused */
-    static const uint8_t refused[] = {0x00, 0x03, 0x01, 0x01, 0x02, 0x04, 0x05, 0x0E, 0x21, 0x0A, 0x00};
-    /* endchar, and an operand that waits at a second mask: 15 comes with the glyph alone */
-    static const uint8_t waiting[] = {0x00, 0x02, 0x01, 0x01, 0x02, 0x0B, 0x0E, 0x8B, 0x8C, 0x01, 0x13, 0x80, 0x8B, 0x14, 0x80, 0x0E};
-    const struct font_row rows[] = {
-        {three, sizeof three, {0, 1000, ROOM}, 0, 13, UNTOUCHED, UNTOUCHED, three_flat},
-        {two, sizeof two, {1, 7, 12}, 0, 12, UNTOUCHED, UNTOUCHED, two_flat},
-        {two, sizeof two, {1, 7, 11}, 13, 12, UNTOUCHED, UNTOUCHED, NULL},
-        {three, sizeof three, {1, 7, 13}, 16, UNTOUCHED, 1, UNTOUCHED, NULL},
-        {three, sizeof three, {1, 7, 0}, 16, UNTOUCHED, 1, UNTOUCHED, NULL},
-        {three, sizeof three, {1, 6, 13}, 3, UNTOUCHED, 0, 6, NULL},
-        {three, sizeof three, {0, 7, 12}, 13, 13, UNTOUCHED, UNTOUCHED, NULL},
-        {three, sizeof three, {0, 7, 0}, 13, 13, UNTOUCHED, UNTOUCHED, NULL},
-        {three, sizeof three, {0, 6, ROOM}, 3, UNTOUCHED, 0, 6, NULL},
-        {refused, sizeof refused, {0, 1000, ROOM}, 9, UNTOUCHED, 1, 2, NULL},
-        {refused, sizeof refused, {0, 1000, 0}, 9, UNTOUCHED, 1, 2, NULL},
-        {refused, sizeof refused, {0, 1, ROOM}, 3, UNTOUCHED, 1, 1, NULL},
-        {waiting, sizeof waiting, {0, 1000, ROOM}, 0, sizeof waiting, UNTOUCHED, UNTOUCHED, waiting},
-        {waiting, sizeof waiting, {1, 1000, ROOM}, 15, UNTOUCHED, 1, UNTOUCHED, NULL},
-        {waiting, sizeof waiting, {1, 1000, 0}, 15, UNTOUCHED, 1, UNTOUCHED, NULL},
-        {waiting, sizeof waiting, {1, 5, ROOM}, 3, UNTOUCHED, 1, 5, NULL},
-        {EMPTY, sizeof EMPTY, {0, 0, ROOM}, 0, 2, UNTOUCHED, UNTOUCHED, EMPTY},
-        {EMPTY, sizeof EMPTY, {0, 0, 2}, 0, 2, UNTOUCHED, UNTOUCHED, EMPTY},
-        {EMPTY, sizeof EMPTY, {0, 0, 1}, 13, 2, UNTOUCHED, UNTOUCHED, NULL},
-    };
-    size_t i;
-    for (i = 0; i < sizeof rows / sizeof rows[0]; i++) {
-        const struct font_row *r = &rows[i];
-        const struct font font = {r->charstrings, r->charstrings_len, EMPTY, sizeof EMPTY, L, sizeof L};
-        const ighzamrel_font_flattening must = {r->answer, r->length, r->glyph, r->tokens, UNTOUCHED, UNTOUCHED};
-        font_flattened(&font, r->limits, &must, r->flat);
-    }
-}
-
-/* A font with one bad list: the lists are looked at before any glyph, the CharStrings INDEX last of the three. */
-static void bad_font(const uint8_t *list, size_t n, uint32_t why, uint32_t bad)
-{
-    static const uint32_t limits[] = {IGHZAMREL_PLAIN, 0, ROOM};
-    const struct font globals = {list, n, list, n, list, n};
-    const struct font locals = {list, n, L, sizeof L, list, n};
-    const struct font charstrings = {list, n, L, sizeof L, EMPTY, sizeof EMPTY};
-    ighzamrel_font_flattening must = {IGHZAMREL_BAD_GLOBALS, UNTOUCHED, UNTOUCHED, UNTOUCHED, bad, why};
-    font_flattened(&globals, limits, &must, NULL);
-    must.answer = IGHZAMREL_BAD_LOCALS;
-    font_flattened(&locals, limits, &must, NULL);
-    must.answer = IGHZAMREL_BAD_CHARSTRINGS;
-    font_flattened(&charstrings, limits, &must, NULL);
-}
-
 /* A list that is not well formed: the reason, and the entry that comes with it. The global list is looked at before the local one. */
 static void bad_list(const uint8_t *list, size_t n, uint32_t why, uint32_t bad)
 {
@@ -474,12 +375,15 @@ int main(void)
     marks();
     marks_refused();
     fonts();
+    glyphs();
+    glyphs_refused();
+    many_glyphs();
     explanations();
     accepted_explained();
     long_list_explained(216, 215, 0xF7, 0x00);
     long_list_explained(1240, 0, 0xFE, 0xFF);
     refusals_explained();
     bad_lists();
-    printf("smoke: thirteen functions, %u checks hold\n", checks);
+    printf("smoke: fourteen functions, %u checks hold\n", checks);
     return 0;
 }

@@ -2,7 +2,8 @@
  * How much stack each function of include/ighzamrel.h uses: it is called on a thread whose stack was painted before,
  * and the lowest byte that lost its paint is counted from the caller's frame. Flattening goes as deep as its profile
  * lets it, each string with hints, a mask, a Fixed and a call by a Fixed index; a font has one such glyph, or so many
- * that their flat strings are more than it keeps. What is explained is accepted, or refused in the deepest string.
+ * that their flat strings are more than it keeps, and all of them are asked for, the last one first. What is explained is
+ * accepted, or refused in the deepest string.
  */
 #define _DEFAULT_SOURCE
 #include "ighzamrel.h"
@@ -22,11 +23,12 @@ static uint32_t answer;
 
 static uint8_t charstring[64], locals[4096], charstrings[64 * MOST_GLYPHS], out[ROOM], globals_row[1], locals_row[8];
 static uint64_t words[3 * IGHZAMREL_MOST_CALLS];
-static size_t charstring_len, locals_len, charstrings_len, place, length, calls;
+static size_t charstring_len, locals_len, charstrings_len, numbers_len, place, length, calls;
 static uint32_t kind, glyph, tokens, entry, reason, width_kind;
 static int32_t value, width;
 static const uint8_t globals[] = {0, 0};
 static const uint32_t lengths[] = {3, 4};
+static uint32_t numbers[MOST_GLYPHS];
 
 static void fail(const char *what)
 {
@@ -74,7 +76,7 @@ static void chain(int entries)
     charstring_len = put_string(charstring, 0);
 }
 
-/* A font of so many glyphs, each of them the charstring. */
+/* A font of so many glyphs, each of them the charstring, and their numbers, descending. */
 static void font(int glyphs)
 {
     static uint8_t joined[64 * MOST_GLYPHS];
@@ -85,7 +87,9 @@ static void font(int glyphs)
         memcpy(joined + n, charstring, charstring_len);
         n += charstring_len;
         each[i] = (uint32_t)charstring_len;
+        numbers[i] = (uint32_t)(glyphs - 1 - i);
     }
+    numbers_len = (size_t)glyphs;
     if (ighzamrel_write_index(each, (size_t)glyphs, joined, n, charstrings, sizeof charstrings, &charstrings_len))
         fail("no font");
 }
@@ -115,6 +119,14 @@ static void flatten_font(uint32_t profile)
 
 static void flatten_font_plain(void) { flatten_font(IGHZAMREL_PLAIN); }
 static void flatten_font_strict(void) { flatten_font(IGHZAMREL_STRICT); }
+static void flatten_glyphs(uint32_t profile)
+{
+    answer = ighzamrel_flatten_glyphs(charstrings, charstrings_len, numbers, numbers_len, globals, sizeof globals, locals, locals_len,
+                                      profile, 1000000, out, ROOM, &length, &glyph, &tokens, &entry, &reason);
+}
+
+static void flatten_glyphs_plain(void) { flatten_glyphs(IGHZAMREL_PLAIN); }
+static void flatten_glyphs_strict(void) { flatten_glyphs(IGHZAMREL_STRICT); }
 static void explain(uint32_t profile)
 {
     answer = ighzamrel_explain(charstring, charstring_len, globals, sizeof globals, locals, locals_len, profile, 1000000,
@@ -211,6 +223,7 @@ int main(void)
         fail("the chain's 63 entries are not marked");
     measure_explained("explain, plain, 64 strings deep", explain_plain, "explain, plain, refused there", explain_refused_plain);
     measure_fonts("flatten_font, plain, one glyph", "flatten_font, plain, 700 glyphs", flatten_font_plain);
+    measure_fonts("flatten_glyphs, plain, one glyph", "flatten_glyphs, plain, 700 glyphs", flatten_glyphs_plain);
     chain(10);
     measure("flatten, plain, 11 strings deep", flatten_plain);
     measure("flatten, strict, 11 strings deep", flatten_strict);
@@ -218,6 +231,7 @@ int main(void)
     measure("flatten_marked, strict, 11 strings deep", flatten_marked_strict);
     measure_explained("explain, strict, 11 strings deep", explain_strict, "explain, strict, refused there", explain_refused_strict);
     measure_fonts("flatten_font, strict, one glyph", "flatten_font, strict, 700 glyphs", flatten_font_strict);
+    measure_fonts("flatten_glyphs, strict, one glyph", "flatten_glyphs, strict, 700 glyphs", flatten_glyphs_strict);
     measure("read_charstring_number", read_charstring_number);
     measure("read_dict_integer", read_dict_integer);
     measure("write_charstring_number", write_charstring_number);

@@ -1,9 +1,10 @@
 //! Flattens an OpenType font with CFF outlines in one go, and then glyph by glyph, to hold the widths that these say against
 //! the advance widths of its hmtx table; and says what came of it.
 //!
-//!     cargo run --release --example font -- FILE [strict] [NUMBER]
+//!     cargo run --release --example font -- FILE [strict] [NUMBER] [--text TEXT]
 //!
 //! A font whose glyphs have several local lists goes glyph by glyph alone. NUMBER is that of a font in a collection, else 0.
+//! With a text it flattens just the glyphs that this needs, a call for each local list, and says what would be embedded.
 
 use std::collections::BTreeMap;
 use std::time::{Duration, Instant};
@@ -11,44 +12,79 @@ use std::{env, fmt, fs, process};
 
 use ighzamrel::{flatten_font_to_vec, flatten_to_vec, read_entry, Operand, Profile, Refused};
 
+#[path = "font/cmap.rs"]
+pub mod cmap;
 #[path = "font/tables.rs"]
 mod tables;
+#[path = "font/text.rs"]
+pub mod text;
 
 use tables::{Font, Private};
+use text::Embedding;
 
 /// What one glyph may take of time, in tokens, and of memory, in bytes; and the INDEX of a whole font, of memory.
 const BUDGET: u32 = 1_000_000;
 const ROOM: usize = 1 << 20;
 const FONT_ROOM: usize = 1 << 28;
 
+const USAGE: &str = "usage: font FILE [strict] [NUMBER] [--text TEXT]";
+
 fn main() {
     let words: Vec<String> = env::args().skip(1).collect();
-    let usage = || fail("usage: font FILE [strict] [NUMBER]", 2);
-    let Some((path, words)) = words.split_first() else {
-        usage()
+    let Some(asked) = Asked::read(&words) else {
+        fail(USAGE, 2)
     };
-    let (mut profile, mut number) = (Profile::Plain, 0);
-    for word in words {
-        match word.parse() {
-            Ok(which) => number = which,
-            Err(_) if word == "strict" => profile = Profile::Strict,
-            Err(_) => usage(),
-        }
-    }
+    let path = asked.path;
     let file =
         fs::read(path).unwrap_or_else(|why| fail(&format!("{path} cannot be read: {why}"), 1));
-    match flatten(&file, number, profile) {
+    match asked.answer(&file) {
         Ok(report) => print!("{path}: {report}"),
-        Err(why) => fail(
-            &format!("{path} is no OpenType font with CFF outlines: {why}"),
-            1,
-        ),
+        Err(why) => fail(&format!("{path}: {why}"), 1),
     }
 }
 
 fn fail(why: &str, status: i32) -> ! {
     eprintln!("{why}");
     process::exit(status)
+}
+
+/// What the program is asked for.
+#[derive(Debug, PartialEq)]
+pub struct Asked<'a> {
+    pub path: &'a str,
+    /// Of a font in a collection.
+    pub number: usize,
+    pub profile: Profile,
+    pub text: Option<&'a str>,
+}
+
+impl<'a> Asked<'a> {
+    pub fn read(words: &'a [String]) -> Option<Self> {
+        let mut words = words.iter();
+        let mut asked = Asked {
+            path: words.next()?,
+            number: 0,
+            profile: Profile::Plain,
+            text: None,
+        };
+        while let Some(word) = words.next() {
+            match word.as_str() {
+                "strict" => asked.profile = Profile::Strict,
+                "--text" => asked.text = Some(words.next()?),
+                number => asked.number = number.parse().ok()?,
+            }
+        }
+        Some(asked)
+    }
+
+    /// What is said of the font in these bytes.
+    pub fn answer(&self, file: &[u8]) -> Result<String, String> {
+        let (number, profile) = (self.number, self.profile);
+        match self.text {
+            Some(text) => Embedding::of(file, number, profile, text).map(|all| all.to_string()),
+            None => flatten(file, number, profile).map(|report| report.to_string()),
+        }
+    }
 }
 
 /// What came of a font.
@@ -59,6 +95,8 @@ pub struct Report {
     pub whole: Option<Result<Whole, Refused>>,
     /// Of its glyphs one by one, where its lists are well formed.
     pub counts: Option<Counts>,
+    /// How long these took one by one.
+    pub time: Duration,
 }
 
 /// A font that was flattened in one go.
@@ -115,9 +153,10 @@ impl fmt::Display for Report {
             Some(Err(refused)) => writeln!(f, "  in one go: {refused}")?,
             None => writeln!(f, "  they have several local lists")?,
         }
-        self.counts
-            .iter()
-            .try_for_each(|counts| write!(f, "{counts}"))
+        match &self.counts {
+            Some(counts) => write!(f, "  one by one, in {:.1?}: {counts}", self.time),
+            None => Ok(()),
+        }
     }
 }
 
@@ -132,7 +171,7 @@ impl fmt::Display for Counts {
     fn fmt(&self, f: &mut fmt::Formatter<'_>) -> fmt::Result {
         writeln!(
             f,
-            "  one by one: {} flattened, {} bytes before, {} after, in {} tokens",
+            "{} flattened, {} bytes before, {} after, in {} tokens",
             self.flattened, self.before, self.after, self.tokens
         )?;
         self.refused
@@ -187,11 +226,13 @@ pub fn flatten(file: &[u8], number: usize, profile: Profile) -> Result<Report, S
         Some(Err(refused)) => refused.glyph.is_some(),
         _ => true,
     };
+    let start = Instant::now();
     let counts = one_by_one.then(|| Counts::of(&font, profile)).transpose()?;
     Ok(Report {
         glyphs: font.charstrings.count,
         whole,
         counts,
+        time: start.elapsed(),
     })
 }
 

@@ -1,4 +1,4 @@
-//! The thirteen C functions, each behind a safe function that lends it slices and places of its own.
+//! The fourteen C functions, each behind a safe function that lends it slices and places of its own.
 //!
 //! What include/ighzamrel.h asks of pointers holds of what is lent here: a slice's pointer is valid for its length,
 //! aligned and never null, also where it is empty; `out` is borrowed alone, and so are the rows, the words and the places.
@@ -131,6 +131,26 @@ pub mod c {
             reason: *mut u32,
         ) -> u32;
 
+        pub fn ighzamrel_flatten_glyphs(
+            charstrings: *const u8,
+            charstrings_len: usize,
+            numbers: *const u32,
+            numbers_len: usize,
+            globals: *const u8,
+            globals_len: usize,
+            locals: *const u8,
+            locals_len: usize,
+            profile: u32,
+            budget: u32,
+            out: *mut u8,
+            out_len: usize,
+            length: *mut usize,
+            glyph: *mut u32,
+            tokens: *mut u32,
+            entry: *mut u32,
+            reason: *mut u32,
+        ) -> u32;
+
         pub fn ighzamrel_explain(
             charstring: *const u8,
             charstring_len: usize,
@@ -243,8 +263,8 @@ pub fn write_index(lengths: &[u32], data: &[u8], out: &mut [u8]) -> (u32, usize)
     (answer, length)
 }
 
-/// The places of a flattening; `glyph` is one of a whole font's alone, the width one of a charstring's, and `calls` one of an
-/// explanation's.
+/// The places of a flattening; `glyph` is one of a whole font's and of chosen glyphs' alone, the width one of a charstring's,
+/// and `calls` one of an explanation's.
 #[derive(Default)]
 pub struct Places {
     pub length: usize,
@@ -341,6 +361,38 @@ pub fn flatten_font_to(
         c::ighzamrel_flatten_font(
             charstrings.as_ptr(),
             charstrings.len(),
+            globals.as_ptr(),
+            globals.len(),
+            locals.as_ptr(),
+            locals.len(),
+            profile,
+            budget,
+            out.as_mut_ptr(),
+            out.len(),
+            &mut places.length,
+            &mut places.glyph,
+            &mut places.tokens,
+            &mut places.entry,
+            &mut places.reason,
+        )
+    }
+}
+
+/// The answer; a place that it does not give is left as it was.
+pub fn flatten_glyphs_to(
+    [charstrings, globals, locals]: [&[u8]; 3],
+    numbers: &[u32],
+    profile: u32,
+    budget: u32,
+    out: &mut [u8],
+    places: &mut Places,
+) -> u32 {
+    unsafe {
+        c::ighzamrel_flatten_glyphs(
+            charstrings.as_ptr(),
+            charstrings.len(),
+            numbers.as_ptr(),
+            numbers.len(),
             globals.as_ptr(),
             globals.len(),
             locals.as_ptr(),

@@ -1,7 +1,8 @@
-//! Type 2 charstrings of a CFF font made flat: one string without calls for each glyph, by itself or with all others of
-//! its font ([`flatten_font`]), and the numbers and INDEXes that charstrings stand in.
+//! Type 2 charstrings of a CFF font made flat: one string without calls for each glyph, by itself, with all others of its
+//! font ([`flatten_font`]) or with those that a text needs ([`flatten_glyphs`]), and the numbers and INDEXes that
+//! charstrings stand in.
 //!
-//! This is a thin safe layer over the thirteen functions of Ighzamrel's static library. Each takes any bytes, ends, and
+//! This is a thin safe layer over the fourteen functions of Ighzamrel's static library. Each takes any bytes, ends, and
 //! either accepts or gives one numbered [`Refusal`]; what each answers is proved, and this layer is tested. They keep no
 //! state, and but for those that give a `Vec` allocate nothing; any threads may call at once.
 //!
@@ -31,8 +32,8 @@
 //! # Panics
 //!
 //! No function panics with the archive of its own version. With another one, a refusal that this crate does not know
-//! does, and says so; [`flatten_to_vec`], [`flatten_marked_to_vec`] and [`flatten_font_to_vec`] abort as any `Vec` does
-//! where memory lacks for the bytes that `room` lets them have.
+//! does, and says so; [`flatten_to_vec`], [`flatten_marked_to_vec`], [`flatten_font_to_vec`] and
+//! [`flatten_glyphs_to_vec`] abort as any `Vec` does where memory lacks for the bytes that `room` lets them have.
 #![deny(missing_docs)]
 #![deny(unsafe_code)]
 
@@ -47,7 +48,7 @@ mod refusal;
 
 pub use explaining::{explain, Call, Explanation, List};
 pub use flattening::{flatten, flatten_to_vec, Flat, FlatVec};
-pub use font::{flatten_font, flatten_font_to_vec};
+pub use font::{flatten_font, flatten_font_to_vec, flatten_glyphs, flatten_glyphs_to_vec};
 pub use index::{check_list, read_entry, read_index, write_index, IndexRead, EMPTY_INDEX};
 pub use marking::{flatten_marked, flatten_marked_to_vec, row_size, MarkedVec, Row};
 pub use number::{

@@ -1,7 +1,7 @@
 //! Flattening that tells which entries of its two lists it entered.
 
 use crate::ffi;
-use crate::flattening::{flat, in_vec, Flat, FlatVec};
+use crate::flattening::{at_hand, flat, Flat, FlatVec};
 use crate::index::read_index;
 use crate::refusal::Refused;
 use crate::Profile;
@@ -159,8 +159,8 @@ pub fn flatten_marked(
 /// The flat string of a charstring, in bytes of its own, where it has at most `room`, and both rows.
 ///
 /// It answers what [`flatten_marked`] answers with so much room and with rows that are long enough, so
-/// [`Refusal::RowTooShort`](crate::Refusal::RowTooShort) never comes. As [`flatten_to_vec`](crate::flatten_to_vec) does, it
-/// runs the charstring once for the length and once for the bytes.
+/// [`Refusal::RowTooShort`](crate::Refusal::RowTooShort) never comes. The charstring is run once or twice, as by
+/// [`flatten_to_vec`](crate::flatten_to_vec).
 ///
 /// ```
 /// use ighzamrel::{flatten_marked_to_vec, Profile, EMPTY_INDEX};
@@ -194,7 +194,7 @@ pub fn flatten_marked_to_vec(
         )?;
         Ok((flat.length, (flat.tokens, flat.width)))
     };
-    let (bytes, (tokens, width)) = in_vec(0, room, run)?;
+    let (bytes, (tokens, width)) = at_hand(room, run)?;
     let flat = FlatVec {
         bytes,
         tokens,

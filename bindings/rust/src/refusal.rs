@@ -84,7 +84,7 @@ refusals! {
     22 TooManyElements [] "an INDEX to be written has over 65535 elements"
     23 TooLong [] "an INDEX to be written has a last offset over 4294967295"
     24 LengthsMismatch [] "the lengths of an INDEX to be written do not add up to its data"
-    25 PastCount [] "the INDEX has no entry of that number"
+    25 PastCount [Glyph] "the INDEX has no entry of that number"
     26 BadCharstrings [Entry Reason] "the CharStrings INDEX is not well formed" {"the CharStrings INDEX's "}
     40 ZeroOffset [Entry] "an offset of the entry, or the INDEX's last, is 0" {"an offset, or the list's last, is 0"}
     41 Descending [Entry] "the offsets of the entry descend" {"its offsets descend"}
@@ -109,8 +109,8 @@ impl Refusal {
         self.values().contains(&value)
     }
 
-    /// The refusal, with those of the values that come with it; with a reason comes what comes with that, and tokens of a
-    /// whole font only with the glyph that they are of.
+    /// The refusal, with those of the values that come with it; with a reason comes what comes with that, and tokens of
+    /// several glyphs only with the one that they are of.
     pub(crate) fn with(self, offered: Offered) -> Refused {
         let reason = offered.reason.filter(|_| self.has(Value::Reason));
         let reason = reason.map(Refusal::told);
@@ -120,6 +120,7 @@ impl Refusal {
             refusal: self,
             needed: offered.length.filter(|_| self.has(Value::Length)),
             glyph,
+            by_place: offered.by_place && glyph.is_some(),
             tokens: offered.tokens.filter(|_| run && self.has(Value::Tokens)),
             entry: offered
                 .entry
@@ -134,6 +135,8 @@ impl Refusal {
 pub(crate) struct Offered {
     pub length: Option<usize>,
     pub glyph: Option<u32>,
+    /// Whether that is a place among numbers of glyphs.
+    pub by_place: bool,
     pub tokens: Option<u32>,
     pub entry: Option<u32>,
     pub reason: Option<u32>,
@@ -186,11 +189,15 @@ pub struct Refused {
     pub refusal: Refusal,
     /// With [`Refusal::Short`], how many bytes the result needs.
     pub needed: Option<usize>,
-    /// Where a whole font is flattened, the number of the first glyph that is refused, counted from 0.
+    /// The first glyph that is refused. Where a whole font is flattened it is the glyph's number, counted from 0; where
+    /// glyphs are asked for by their numbers ([`flatten_glyphs`](crate::flatten_glyphs)), the place of its number among
+    /// these, counted from 0.
     pub glyph: Option<u32>,
-    /// In flattening, how many tokens were run, the refused one among them but at [`Refusal::BudgetSpent`]; of a whole
-    /// font, those of the refused glyph. None where a list is not well formed or a row too short, for then nothing was run,
-    /// and with [`Refusal::OperandsAtMask`] and [`Refusal::NoEndchar`], which come without them.
+    /// Whether `glyph` is such a place. The text then says `place 3: `, and else `glyph 3: `.
+    pub by_place: bool,
+    /// In flattening, how many tokens were run, the refused one among them but at [`Refusal::BudgetSpent`]; of several
+    /// glyphs, those of the refused one. None where a list is not well formed, a row too short, or a glyph not there, for
+    /// then nothing was run, and with [`Refusal::OperandsAtMask`] and [`Refusal::NoEndchar`], which come without them.
     pub tokens: Option<u32>,
     /// Where a list is not well formed for want of an entry, the number of the first that it has not.
     pub entry: Option<u32>,
@@ -233,7 +240,8 @@ impl fmt::Display for Refused {
             return self.say_reason(reason, f);
         }
         if let Some(glyph) = self.glyph {
-            write!(f, "glyph {glyph}: ")?;
+            let what = if self.by_place { "place" } else { "glyph" };
+            write!(f, "{what} {glyph}: ")?;
         }
         write!(f, "{}", self.refusal.text())?;
         if let Some(needed) = self.needed {

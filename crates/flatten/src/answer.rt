@@ -76,6 +76,9 @@ fn tell_font(flattened: FontFlattened, room: &[u8]) {
         FontFlattened::BadGlobals(flaw) => tell_bad_globals(flaw),
         FontFlattened::BadLocals(flaw) => tell_bad_locals(flaw),
         FontFlattened::BadCharstrings(flaw) => tell_bad_charstrings(flaw),
+        // these two do not come: all glyphs are asked for
+        FontFlattened::TooMany => say(b"\n"),
+        FontFlattened::NoGlyph(_) => say(b"\n"),
         FontFlattened::Refused(glyph, why) => tell_glyph(glyph, why),
         FontFlattened::TooLong => say(
             b": an INDEX to be written has a last offset over 4294967295\n",

@@ -209,6 +209,15 @@ fn face(file: &[u8], which: usize) -> Result<usize, String> {
     }
 }
 
+/// A table of the font of this number in a file, if it has one of that name.
+pub fn table_of<'a>(
+    file: &'a [u8],
+    number: usize,
+    tag: &[u8; 4],
+) -> Result<Option<&'a [u8]>, String> {
+    table(file, face(file, number)?, tag)
+}
+
 /// A table of the font that starts there, if it has one of that name.
 fn table<'a>(file: &'a [u8], face: usize, tag: &[u8; 4]) -> Result<Option<&'a [u8]>, String> {
     for i in 0..number(file, face + 4, 2).ok_or(CUT)? {
@@ -261,12 +270,12 @@ impl<'a> List<'a> {
     }
 }
 
-fn part(bytes: &[u8], at: usize, length: usize) -> Option<&[u8]> {
+pub fn part(bytes: &[u8], at: usize, length: usize) -> Option<&[u8]> {
     bytes.get(at..at.checked_add(length)?)
 }
 
 /// A big-endian number.
-fn number(bytes: &[u8], at: usize, width: usize) -> Option<usize> {
+pub fn number(bytes: &[u8], at: usize, width: usize) -> Option<usize> {
     let bytes = part(bytes, at, width)?;
     Some(bytes.iter().fold(0, |n, &b| n << 8 | usize::from(b)))
 }

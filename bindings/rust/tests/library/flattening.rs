@@ -143,6 +143,32 @@ fn accepted_rows_without_room_give_their_length_and_tokens() {
     }
 }
 
+/// Flat strings of about as many bytes as are at hand, and of more: in just their room, in ample room and in a byte less.
+#[test]
+fn a_long_flat_string_is_as_a_short_one() {
+    for length in [4095, 4096, 4097, 10_000] {
+        let charstring = vec![0x05; length];
+        let tokens = length as u32;
+        let vec = |room| flatten_to_vec(&charstring, EMPTY_INDEX, EMPTY_INDEX, Plain, tokens, room);
+        let told = without_width(&charstring, tokens);
+        for room in [length, 1 << 20] {
+            let flat = vec(room).unwrap();
+            assert_eq!(flat.bytes.capacity(), length);
+            assert_eq!(flat, told);
+        }
+        let refused = Refused {
+            needed: Some(length),
+            ..run(Refusal::Short, tokens)
+        };
+        assert_eq!(vec(length - 1), Err(refused));
+        let marked = |room| {
+            flatten_marked_to_vec(&charstring, EMPTY_INDEX, EMPTY_INDEX, Plain, tokens, room)
+        };
+        assert_eq!(marked(length).map(|marked| marked.flat), Ok(told));
+        assert_eq!(marked(length - 1), Err(refused));
+    }
+}
+
 /// Both functions refuse so, and no lent byte changes.
 fn both_refuse(charstring: &[u8], locals: &[u8], profile: Profile, room: usize, refused: Refused) {
     let answer = lent(room, |out| {

@@ -2,12 +2,13 @@
 
 #[allow(dead_code)]
 #[path = "../../examples/font.rs"]
-mod example;
+pub mod example;
 
 use crate::{alone, index};
-use example::{flatten, Advance, Counts, Report, Widths};
+use example::{flatten, Advance, Asked, Counts, Report, Widths};
 use ighzamrel::{Operand, Profile, Refusal, Refused, EMPTY_INDEX};
 use std::collections::BTreeMap;
+use std::time::Duration;
 
 /// An operator of a DICT with its operands, each in five bytes, so that its length does not depend on them.
 fn entry(operands: &[usize], operator: &[u8]) -> Vec<u8> {
@@ -20,7 +21,7 @@ fn entry(operands: &[usize], operator: &[u8]) -> Vec<u8> {
 }
 
 /// An OpenType file with these tables.
-fn file(tables: &[(&[u8; 4], &[u8])]) -> Vec<u8> {
+pub fn file(tables: &[(&[u8; 4], &[u8])]) -> Vec<u8> {
     let count = tables.len();
     let mut head = [b"OTTO", &[0, count as u8, 0, 0, 0, 0, 0, 0][..]].concat();
     let mut at = 12 + 16 * count;
@@ -42,7 +43,7 @@ const AT_MASK: &[u8] = &[0x8B, 0x8C, 0x01, 0x13, 0x80, 0x8B, 0x13, 0x80, 0x0E];
 const GLYPHS: [&[u8]; 3] = [&[0x20, 0x0A, 0x0E], &[0x0E], &[0x00]];
 
 /// A Private DICT with this in it too, and behind it its local list; and the DICT's size.
-fn private(more: &[u8], list: &[u8]) -> (Vec<u8>, usize) {
+pub fn private(more: &[u8], list: &[u8]) -> (Vec<u8>, usize) {
     let size = 6 + more.len();
     ([&entry(&[size], &[19])[..], more, list].concat(), size)
 }
@@ -73,7 +74,7 @@ pub fn font_with_lists(glyphs: &[u8], globals: &[u8], locals: &[u8]) -> Vec<u8> 
     file(&[(b"CFF ", &table)])
 }
 
-fn table_with(glyphs: &[u8], globals: &[u8], (private, size): (Vec<u8>, usize)) -> Vec<u8> {
+pub fn table_with(glyphs: &[u8], globals: &[u8], (private, size): (Vec<u8>, usize)) -> Vec<u8> {
     let top = |glyphs, private| {
         [
             &REAL[..],
@@ -106,7 +107,7 @@ pub fn cid_font(select: &[u8]) -> Vec<u8> {
 }
 
 /// In the Private DICTs nominalWidthX is 100 and 200, and defaultWidthX 10 and 20.
-fn cid_table(select: &[u8]) -> Vec<u8> {
+pub fn cid_table(select: &[u8]) -> Vec<u8> {
     let top = |glyphs, dicts, select| {
         let dicts = entry(&[dicts], &[12, 36]);
         [entry(&[glyphs], &[17]), dicts, entry(&[select], &[12, 37])].concat()
@@ -131,6 +132,13 @@ fn plain(font: &[u8]) -> Report {
     flatten(font, 0, Profile::Plain).unwrap()
 }
 
+/// The lines of a report, as if its glyphs had taken no time one by one.
+fn lines(report: &mut Report) -> Vec<String> {
+    report.time = Duration::ZERO;
+    let text = report.to_string();
+    text.lines().map(|line| line.trim().into()).collect()
+}
+
 fn counts(tokens: u64, before: usize, after: usize) -> Option<Counts> {
     let refused = BTreeMap::from([(Refusal::Unknown.into(), 1)]);
     Some(Counts {
@@ -147,15 +155,15 @@ fn counts(tokens: u64, before: usize, after: usize) -> Option<Counts> {
 fn a_font_is_flattened_in_one_go() {
     let glyphs = index(&GLYPHS[..2]);
     let font = font_with(&glyphs, &index(&[&[0x8C, 0x8D, 0x15, 0x0B]]));
-    let report = plain(&font);
-    let text = report.to_string();
+    let mut report = plain(&font);
+    let lines = lines(&mut report);
     let whole = report.whole.unwrap().unwrap();
     assert_eq!(whole.flat, index(&[&[0x8C, 0x8D, 0x15, 0x0E], &[0x0E]]));
     assert_eq!((report.glyphs, whole.before), (2, glyphs.len()));
-    assert!(text.starts_with("2 glyphs\n  in one go: 10 bytes before, 11 after, in "));
-    let one_by_one = "one by one: 2 flattened, 4 bytes before, 5 after, in 8 tokens";
+    assert_eq!(lines[0], "2 glyphs");
+    assert!(lines[1].starts_with("in one go: 10 bytes before, 11 after, in "));
+    let one_by_one = "one by one, in 0.0ns: 2 flattened, 4 bytes before, 5 after, in 8 tokens";
     let widths = "widths: 0 say one of their own; hmtx has none";
-    let lines: Vec<&str> = text.lines().map(str::trim).collect();
     assert_eq!(lines[2..], [one_by_one, widths]);
 }
 
@@ -171,9 +179,8 @@ fn refused_glyphs_are_counted() {
 fn refused_in_strict(glyph: &[u8], refusal: Refusal, tokens: Option<u32>, all: u32) {
     let glyphs = index(&[GLYPHS[0], GLYPHS[1], glyph]);
     let font = font_with(&glyphs, &index(&[&[0x8C, 0x8D, 0x15, 0x0B]]));
-    let report = flatten(&font, 0, Profile::Strict).unwrap();
-    let text = report.to_string();
-    let lines: Vec<&str> = text.lines().map(str::trim).collect();
+    let mut report = flatten(&font, 0, Profile::Strict).unwrap();
+    let lines = lines(&mut report);
     let first = report.whole.unwrap().unwrap_err();
     assert_eq!((first.glyph, first.tokens), (Some(2), tokens));
     assert_eq!(
@@ -181,7 +188,7 @@ fn refused_in_strict(glyph: &[u8], refusal: Refusal, tokens: Option<u32>, all: u
         [
             "3 glyphs",
             &format!("in one go: {first}"),
-            &format!("one by one: 2 flattened, 4 bytes before, 5 after, in {all} tokens"),
+            &format!("one by one, in 0.0ns: 2 flattened, 4 bytes before, 5 after, in {all} tokens"),
             &format!("1 with {refusal}"),
             "widths: 0 say one of their own; hmtx has none"
         ]
@@ -378,4 +385,21 @@ fn a_collection_has_several_fonts() {
     assert_eq!(glyphs(2).unwrap_err(), "it has no font 2");
     let why = flatten(&font, 1, Profile::Plain).unwrap_err();
     assert_eq!(why, "it is no collection");
+}
+
+#[test]
+fn what_is_asked_for_is_read() {
+    let read = |words: &str| {
+        let words: Vec<String> = words.split_whitespace().map(String::from).collect();
+        let asked = Asked::read(&words)?;
+        let text = asked.text.map(String::from);
+        Some((asked.path.to_string(), asked.number, asked.profile, text))
+    };
+    let path = || "A.otf".to_string();
+    assert_eq!(read("A.otf"), Some((path(), 0, Profile::Plain, None)));
+    let all = read("A.otf strict 2 --text 2026");
+    assert_eq!(all, Some((path(), 2, Profile::Strict, Some("2026".into()))));
+    for wrong in ["", "A.otf --text", "A.otf x", "A.otf -1"] {
+        assert_eq!(read(wrong), None, "{wrong}");
+    }
 }

@@ -1,5 +1,6 @@
 //! The crate on the examples of docs/RULES.md, its refusals and its lent bytes, and held against the C header.
 
+mod chosen;
 mod explained;
 mod flattening;
 mod font;
@@ -8,6 +9,7 @@ mod indexes;
 mod marked;
 mod numbers;
 mod rerun;
+mod text;
 mod whole;
 mod why;
 mod width;
@@ -28,6 +30,7 @@ fn alone(refusal: Refusal) -> Refused {
         refusal,
         needed: None,
         glyph: None,
+        by_place: false,
         tokens: None,
         entry: None,
         reason: None,
