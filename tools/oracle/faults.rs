@@ -5,7 +5,7 @@ use crate::operation::{library, Call, Fault, Found, Lent, Operation, Outcome, Pl
 use crate::operations::flatten::set;
 use crate::operations::{flatten, flatten_font, OPERATIONS};
 use crate::rules::flattening::Rules;
-use crate::{end_faults, mask_faults, width_faults};
+use crate::{end_faults, font_faults, mask_faults, width_faults};
 
 const MOST: usize = usize::MAX;
 
@@ -29,7 +29,8 @@ static EVERYWHERE: [Fault; 9] = [
 fn all() -> Vec<(&'static Fault, Option<&'static Operation>)> {
     let own = |&operation: &&'static Operation| {
         let strict = mask_faults::of(operation).iter().chain(end_faults::of(operation));
-        let own = operation.faults.iter().chain(strict).chain(width_faults::of(operation));
+        let own = operation.faults.iter().chain(font_faults::of(operation)).chain(strict);
+        let own = own.chain(width_faults::of(operation));
         own.map(move |fault| (fault, Some(operation)))
     };
     let everywhere = EVERYWHERE.iter().map(|fault| (fault, None));
@@ -43,13 +44,9 @@ pub fn plant(number: usize) -> Option<String> {
     Some(format!("{}: {}", only.map_or("everywhere", |operation| operation.name), fault.name))
 }
 
-fn is_font(call: &Call) -> bool {
-    call.operation.number == flatten_font::OPERATION.number
-}
-
 /// What must come of a flattening by these rules.
 pub(crate) fn ruled(call: &Call, rules: Rules) -> Outcome {
-    if is_font(call) {
+    if call.operation.takes_font() {
         return flatten_font::ruled(call, rules);
     }
     flatten::ruled(call, rules)
@@ -84,7 +81,7 @@ pub(crate) fn tell_rows(lent: &Lent, rows: &[Vec<u8>; 2]) {
 }
 
 pub(crate) fn tokens_place(call: &Call) -> usize {
-    if is_font(call) {
+    if call.operation.takes_font() {
         2
     } else {
         1

@@ -3,10 +3,11 @@
 //!     0       which operation, by its place among them
 //!     1       flags, as below
 //!     2       a number that is added to the others' sum; see `may_be_long`
-//!     3, 4    the budget, modulo 5000; where it may be long, as it is, and from FFF0 on 150000; of a font, a tenth of that
+//!     3, 4    the budget, modulo 5000; where it may be long, as it is, and from FFF0 on 150000; of a font, a tenth of that, and where
+//!             there are very many numbers, a thousandth of the tenth
 //!     5, 6    the room, modulo 600; from FFF0 on, 40000
 //!     7..10   a value; where there are rows, 7 and 8 are how many bytes more than one too few each has, modulo 6; where there are
-//!             words, 7 is how many
+//!             words, 7 is how many; where there are numbers, 7 and 8 are how many bytes behind those of 15..18 say them
 //!     11..14  a number; where there are rows, what they hold, over and over
 //!     15..18  how many bytes behind the head are the last slice, and the one before it; the first slice is all that is left
 
@@ -28,9 +29,9 @@ const BUILT: u8 = 4;
 const SHARED: u8 = 8;
 /// Strict, and a Fixed, by numbers other than 1.
 const ODD: u8 = 16;
-/// Where it may be long, an INDEX is written from 65,534 lengths or some more.
+/// Where it may be long, there are 65,534 numbers or some more.
 const MANY: u8 = 32;
-/// The data of an INDEX that is written are cut or lengthened to what the lengths say, which are of two bytes then.
+/// Numbers are of two bytes, and the data of an INDEX that is written are cut or lengthened to what they say.
 const FITTED: u8 = 64;
 
 const AMPLE: u32 = 150_000;
@@ -71,7 +72,7 @@ pub fn call(bytes: &[u8]) -> Call<'static> {
         call.kind = odd(FIXED, 0x0101_0100);
     }
     call.profile = odd(STRICT, 0x8000_0000);
-    call.budget = budget(operation, word(&head[3..5]), long);
+    call.budget = budget(operation, word(&head[3..5]), long, flags);
     call.room = match word(&head[5..7]) as usize {
         room if room < 0xFFF0 => room % 600,
         _ => WIDE,
@@ -80,12 +81,11 @@ pub fn call(bytes: &[u8]) -> Call<'static> {
     call.number = word(&head[11..15]);
     let last = cut(&mut left, word(&head[15..17]) as usize);
     let middle = cut(&mut left, word(&head[17..19]) as usize);
-    let slices = match operation.arguments.iter().filter_map(|argument| argument.slice()).max() {
-        Some(2) => [left, middle, last],
-        Some(1) => [middle, left, &[]],
-        _ => [left, &[], &[]],
-    };
-    fill(&mut call, slices, flags, long);
+    if operation.takes_numbers() {
+        let from = cut(&mut left, word(&head[7..9]) as usize);
+        call.numbers = Cow::Owned(numbers(from, flags));
+    }
+    fill(&mut call, [left, middle, last], flags, long);
     if operation.takes_rows() {
         call.rows = rows(&call, &head).map(Cow::Owned);
     }
@@ -108,21 +108,21 @@ fn needed(call: &Call, row: usize) -> usize {
     formed(&call.slices[row + 1]).map_or(0, row_size)
 }
 
-fn budget(operation: &Operation, said: u32, long: bool) -> u32 {
+fn budget(operation: &Operation, said: u32, long: bool, flags: u8) -> u32 {
     let budget = match said {
         _ if !long => said % 5000,
         0..0xFFF0 => said,
         _ => AMPLE,
     };
-    budget / glyphs(operation)
+    budget / glyphs(operation, flags)
 }
 
 /// Among how many glyphs the budget is shared out.
-fn glyphs(operation: &Operation) -> u32 {
-    if takes_font(operation) {
-        10
-    } else {
-        1
+fn glyphs(operation: &Operation, flags: u8) -> u32 {
+    match (operation.takes_font(), operation.takes_numbers() && flags & MANY != 0) {
+        (true, true) => 10_000,
+        (true, false) => 10,
+        (false, _) => 1,
     }
 }
 
@@ -130,13 +130,13 @@ fn fill(call: &mut Call, slices: [&[u8]; 3], flags: u8, long: bool) {
     let mut first_list: Option<usize> = None;
     for argument in call.operation.arguments {
         match *argument {
-            Argument::Bytes(i) if call.operation.arguments.contains(&Argument::Lengths) => {
-                let sum = call.lengths().iter().map(|&length| u64::from(length)).sum();
+            Argument::Bytes(i) if call.operation.takes_numbers() => {
+                let sum = call.numbers.iter().map(|&length| u64::from(length)).sum();
                 call.slices[i] = Cow::Owned(fitted(slices[i], flags, sum));
             }
             Argument::Bytes(i) => call.slices[i] = Cow::Owned(slices[i].to_vec()),
             Argument::List(i) => {
-                let charstrings = i == 0 && takes_font(call.operation);
+                let charstrings = i == 0 && call.operation.takes_font();
                 let shared = first_list.filter(|_| flags & SHARED != 0);
                 call.slices[i] = match shared {
                     Some(first) => call.slices[first].clone(),
@@ -145,15 +145,9 @@ fn fill(call: &mut Call, slices: [&[u8]; 3], flags: u8, long: bool) {
                 };
                 first_list = first_list.or(Some(i)).filter(|_| !charstrings);
             }
-            Argument::Lengths => call.slices[0] = Cow::Owned(lengths(slices[0], flags)),
             _ => {}
         }
     }
-}
-
-/// Whether the first list is the charstrings of a font, and the others are its subroutines.
-fn takes_font(operation: &Operation) -> bool {
-    (0..3).all(|i| operation.arguments.contains(&Argument::List(i)))
 }
 
 /// How many entries a list has at least: around each count at which the bias changes. Charstrings are that many only where it may
@@ -196,14 +190,14 @@ fn built(from: &[u8], charstrings: bool, long: bool) -> Vec<u8> {
     [&index[..], &[0x0E; 3][..before], &entries.concat()].concat()
 }
 
-/// The lengths that an INDEX is written from, as words.
-fn lengths(from: &[u8], flags: u8) -> Vec<u8> {
+/// Lengths that an INDEX is written from, or numbers of glyphs.
+fn numbers(from: &[u8], flags: u8) -> Vec<u32> {
     let width = if flags & FITTED != 0 { 2 } else { 4 };
-    let mut words: Vec<u32> = from.chunks_exact(width).map(word).collect();
+    let mut numbers: Vec<u32> = from.chunks_exact(width).map(word).collect();
     if flags & MANY != 0 {
-        words.resize(65_534 + (words.len() & 3), 0);
+        numbers.resize(65_534 + (numbers.len() & 3), 0);
     }
-    words.into_iter().flat_map(u32::to_be_bytes).collect()
+    numbers
 }
 
 /// The data, as they are or, where they can be, as many as the lengths say.
@@ -219,26 +213,25 @@ fn fitted(from: &[u8], flags: u8, sum: u64) -> Vec<u8> {
 fn seed(call: &Call) -> Option<Vec<u8>> {
     let place =
         OPERATIONS.iter().position(|operation| operation.number == call.operation.number)?;
-    let last = call.operation.arguments.iter().filter_map(|argument| argument.slice()).max();
-    let order = match last {
-        Some(2) => [2, 1, 0],
-        Some(1) => [2, 0, 1],
-        _ => [2, 1, 0],
-    };
-    let [last, middle, first] = order.map(|i| &call.slices[i][..]);
+    let [first, middle, last] = call.slices.each_ref().map(|slice| &slice[..]);
+    let numbers: Vec<u8> = call.numbers.iter().flat_map(|number| number.to_be_bytes()).collect();
     let flags = if call.strict() { STRICT } else { 0 } | if call.fixed() { FIXED } else { 0 };
     let mut seed = vec![place as u8, flags, 0];
-    let budget = call.budget.saturating_mul(glyphs(call.operation));
+    let budget = call.budget.saturating_mul(glyphs(call.operation, flags));
     seed.extend((budget.min(4999) as u16).to_be_bytes());
     seed.extend((call.room.min(599) as u16).to_be_bytes());
     seed.extend(match call.operation {
         operation if operation.takes_rows() => said_rows(call),
         operation if operation.takes_words() => [call.words.min(255) as u8, 0, 0, 0, 0, 0, 0, 0],
+        operation if operation.takes_numbers() => {
+            let [high, low] = u16::try_from(numbers.len()).ok()?.to_be_bytes();
+            [high, low, 0, 0, 0, 0, 0, 0]
+        }
         _ => said_numbers(call),
     });
     seed.extend(u16::try_from(last.len()).ok()?.to_be_bytes());
     seed.extend(u16::try_from(middle.len()).ok()?.to_be_bytes());
-    Some([&seed[..], last, middle, first].concat())
+    Some([&seed[..], last, middle, &numbers, first].concat())
 }
 
 fn said_numbers(call: &Call) -> [u8; 8] {
@@ -284,7 +277,7 @@ pub fn write_seeds(folder: &str) -> Result<(), String> {
             seeds.extend(short.iter().step_by(short.len().div_ceil(OF_EACH).max(1)).cloned());
         };
         extend(seed);
-        if takes_font(operation) {
+        if operation.takes_font() {
             extend(built_seed);
         }
     }
@@ -300,7 +293,7 @@ pub fn write_seeds(folder: &str) -> Result<(), String> {
 
 /// Those that may be long.
 fn long_seeds() -> Vec<Vec<u8>> {
-    let mut seeds = [over_lists(), fonts(), explained()].concat();
+    let mut seeds = [over_lists(), fonts(), explained(), numbered()].concat();
     seeds.push(long_head(7, MANY, 0));
     for seed in &mut seeds {
         let sum = seed.iter().map(|&b| u32::from(b)).sum::<u32>() % 64;
@@ -358,6 +351,19 @@ fn fonts() -> Vec<Vec<u8>> {
         seeds.push(over_list(33, STRICT, &moves(), &[&[0][..], &glyphs].concat()));
     }
     seeds
+}
+
+/// Two glyphs by 65,534 numbers, by one more and by two, also with one that is past the last; and by two more over bad lists.
+fn numbered() -> Vec<Vec<u8>> {
+    let glyphs = [&[0][..], &entry(&[0x0E]).repeat(2)].concat();
+    let seed = |flags: u8, number: u8, count: usize| {
+        let numbers = [0, 0, 0, number].repeat(count);
+        let mut head = long_head(34, flags | MANY, 0);
+        head[7..9].copy_from_slice(&(numbers.len() as u16).to_be_bytes());
+        [head, numbers, glyphs.clone()].concat()
+    };
+    let built = [1, 9].into_iter().flat_map(|number| [0, 1, 2].map(|n| seed(BUILT, number, n)));
+    built.chain([seed(0, 1, 2)]).collect()
 }
 
 /// Charstrings that are refused in entry 256, also by a call behind 256 bytes.

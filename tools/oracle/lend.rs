@@ -1,9 +1,9 @@
-//! What is lent to a C function: each slice, the room, the rows and the words stand flush against a page that nothing may touch,
-//! so that code without instrumentation faults at the first byte that it reads or writes too far. The room, the words, the bytes
-//! on the other side of them and of the rows, and each place hold a pattern. After every call all of it is looked at.
+//! What is lent to a C function: each slice, the numbers, the room, the rows and the words stand flush against a page that nothing
+//! may touch, so that code without instrumentation faults at the first byte that it reads or writes too far. The room, the words,
+//! the bytes on the other side of them and of the rows, and each place hold a pattern. After every call all of it is looked at.
 
 use crate::operation::{
-    library, Argument, Call, Fault, Found, Lent, Operation, Outcome, Place, Side, NO_WIDTH, PLACES,
+    library, Call, Fault, Found, Lent, Operation, Outcome, Place, Side, NO_WIDTH, PLACES,
 };
 use std::borrow::Cow;
 use std::ffi::c_void;
@@ -11,12 +11,13 @@ use std::ptr;
 use std::slice;
 use std::sync::OnceLock;
 
-/// The most bytes of a slice, a room, a row or the words.
+/// The most bytes of a slice, the numbers, a room, a row or the words.
 const ARENA: usize = 1 << 25;
 const PAGE: usize = 1 << 16;
 
-/// The bytes of a word.
+/// The bytes of a word, and of a number.
 const WORD: usize = size_of::<u64>();
+const NUMBER: usize = size_of::<u32>();
 
 /// How many bytes on the side where there is no page are looked at.
 const GUARD: usize = 64;
@@ -91,6 +92,7 @@ fn planted(call: &Call) -> fn(&Call, &Lent) -> u32 {
 
 pub struct Lender {
     arenas: [Arena; 3],
+    numbers: Arena,
     out: Arena,
     rows: [Arena; 2],
     words: Arena,
@@ -105,19 +107,23 @@ impl Lender {
             .collect();
         let arenas = [Arena::new(), Arena::new(), Arena::new()];
         let rows = [Arena::new(), Arena::new()];
-        Lender { arenas, out: Arena::new(), rows, words: Arena::new(), pattern, start: 0 }
+        let [numbers, out, words] = [Arena::new(), Arena::new(), Arena::new()];
+        Lender { arenas, numbers, out, rows, words, pattern, start: 0 }
     }
 
     /// Makes a call, and looks at all that was lent.
     pub fn perform(&mut self, call: &Call, side: Side) -> Result<Outcome, String> {
         self.start = (self.start + 29) % STARTS;
-        let handed = [0, 1, 2].map(|i| handed(call, i));
         let mut places = [UNSET; PLACES];
-        let lent = self.lent(call, &handed, &mut places, side);
+        let lent = self.lent(call, &mut places, side);
         let answer = planted(call)(call, &lent);
         // SAFETY: each block lies in its arena, and the call is over.
         let left = |(at, size): (*mut u8, usize)| unsafe { slice::from_raw_parts(at, size) };
-        if lent.slices.map(left).iter().zip(&handed).any(|(left, handed)| left[..] != handed[..]) {
+        // SAFETY: so do the numbers, whose arena starts and ends at one.
+        let numbers = unsafe { slice::from_raw_parts(lent.numbers.0, lent.numbers.1) };
+        let same = |(left, handed): (&[u8], &Cow<[u8]>)| left[..] == handed[..];
+        let all_same = lent.slices.map(left).into_iter().zip(&call.slices).all(same);
+        if !all_same || numbers[..] != call.numbers[..] {
             return Err("  a byte of an input was changed\n".into());
         }
         let mut outcome = outcome(call, answer, &places, left((lent.out, lent.room)))?;
@@ -144,32 +150,39 @@ impl Lender {
     }
 
     /// Lays all out.
-    fn lent(
-        &self,
-        call: &Call,
-        handed: &[Cow<[u8]>; 3],
-        places: &mut [u64; PLACES],
-        side: Side,
-    ) -> Lent {
+    fn lent(&self, call: &Call, places: &mut [u64; PLACES], side: Side) -> Lent {
         let pattern = &self.pattern[self.start..];
-        let block = |i: usize| (self.arenas[i].block(handed[i].len(), side), handed[i].len());
+        let block = |i: usize| {
+            let size = call.slices[i].len();
+            (self.arenas[i].block(size, side), size)
+        };
         let mut slices = [0, 1, 2].map(block);
         let row = |i: usize| {
             let size = call.rows[i].len();
             (self.rows[i].guarded(size, side, pattern), size)
         };
         let (out, rows) = (self.out.guarded(call.room, side, pattern), [0, 1].map(row));
-        let bytes = handed.iter().chain(&call.rows);
+        let bytes = call.slices.iter().chain(&call.rows);
         for ((block, size), bytes) in slices.iter().chain(&rows).zip(bytes) {
             // SAFETY: each block lies in its arena, and nothing else refers to it.
             unsafe { ptr::copy_nonoverlapping(bytes.as_ptr(), *block, *size) };
         }
-        if handed[1] == handed[2] && self.start % 2 == 1 {
+        if call.slices[1] == call.slices[2] && self.start % 2 == 1 {
             // two lists may be the very same bytes
             slices[2] = slices[1];
         }
         let words = (self.words.guarded(WORD * call.words, side, pattern).cast(), call.words);
-        Lent { slices, out, room: call.room, rows, words, places: places.as_mut_ptr(), side }
+        let numbers = self.numbers_lent(&call.numbers, side);
+        let (room, places) = (call.room, places.as_mut_ptr());
+        Lent { slices, numbers, out, room, rows, words, places, side }
+    }
+
+    fn numbers_lent(&self, numbers: &[u32], side: Side) -> (*mut u32, usize) {
+        let (size, count) = (NUMBER * numbers.len(), numbers.len());
+        let block = self.numbers.block(size, side).cast();
+        // SAFETY: the block lies in its arena, which starts and ends at a number, and nothing else refers to it.
+        unsafe { ptr::copy_nonoverlapping(numbers.as_ptr(), block, count) };
+        (block, count)
     }
 }
 
@@ -236,12 +249,4 @@ fn rows(call: &Call, answer: u32, left: [&[u8]; 2]) -> Result<[Vec<u8>; 2], Stri
 fn told_words(call: &Call, outcome: &Outcome, left: &[u64]) -> Vec<u64> {
     let open = call.operation.calls.and_then(|place| outcome.values[place]).unwrap_or(0);
     left[..3 * (open as usize).min(left.len() / 3)].to_vec()
-}
-
-/// A slice as the C function takes it: lengths are words of this machine.
-fn handed<'a>(call: &'a Call, which: usize) -> Cow<'a, [u8]> {
-    if which == 0 && call.operation.arguments.contains(&Argument::Lengths) {
-        return call.lengths().into_iter().flat_map(u32::to_ne_bytes).collect();
-    }
-    Cow::Borrowed(&call.slices[which])
 }

@@ -5,6 +5,7 @@ mod end_faults;
 mod explain_faults;
 pub mod faults;
 pub mod fixed;
+mod font_faults;
 pub mod fonts;
 pub mod fuzzed;
 pub mod inputs;

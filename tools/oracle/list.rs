@@ -15,10 +15,16 @@ const STORED: usize = 500;
 /// A length of 9, and then only three bytes.
 const CUT_OFF: [u8; 7] = [0, 0, 0, 9, 1, 0, 0];
 
-/// Records that are none. No operation is ever to have the numbers 0, 31 and 255; the last one's lengths are more than a record
+/// Records that are none. No operation is ever to have the numbers 0, 31 and 255; the last two's numbers are more than a record
 /// holds.
-const NO_RECORDS: [&[u8]; 5] =
-    [&[], &[0], &[31], &[255, 0, 0, 0, 0], &[7, 0x40, 0, 0, 0, 0, 0, 0, 0, 0, 0, 0, 0]];
+const NO_RECORDS: [&[u8]; 6] = [
+    &[],
+    &[0],
+    &[31],
+    &[255, 0, 0, 0, 0],
+    &[7, 0x40, 0, 0, 0, 0, 0, 0, 0, 0, 0, 0, 0],
+    &[34, 0, 0, 0, 0, 0, 0, 0, 0, 0, 0x40, 0, 0, 0, 0, 0, 0, 0, 0, 0, 0, 0, 0, 0, 0, 0],
+];
 
 pub fn write(folder: &str) -> Result<(), String> {
     let mut stdin = Vec::new();

@@ -45,7 +45,7 @@ pub struct Operation {
     pub faults: &'static [Fault],
 }
 
-/// What a call hands over. An operation takes some of these; its `arguments` say which. Lengths are big-endian words here.
+/// What a call hands over. An operation takes some of these; its `arguments` say which.
 #[derive(Clone)]
 pub struct Call<'a> {
     pub operation: &'static Operation,
@@ -56,6 +56,8 @@ pub struct Call<'a> {
     pub budget: u32,
     pub room: usize,
     pub slices: [Cow<'a, [u8]>; 3],
+    /// Lengths, or numbers of glyphs.
+    pub numbers: Cow<'a, [u32]>,
     /// The rows as lent.
     pub rows: [Cow<'a, [u8]>; 2],
     /// How many words are lent.
@@ -81,8 +83,10 @@ pub enum Side {
 }
 
 /// What a C function is handed; a fault may touch all of it.
+#[derive(Clone, Copy)]
 pub struct Lent {
     pub slices: [(*mut u8, usize); 3],
+    pub numbers: (*mut u32, usize),
     pub out: *mut u8,
     pub room: usize,
     pub rows: [(*mut u8, usize); 2],
@@ -97,6 +101,9 @@ pub struct Fault {
     pub name: &'static str,
     pub plant: fn(&Call, &Lent) -> u32,
 }
+
+/// What a call has that is lent no numbers.
+pub const NO_NUMBERS: Cow<[u32]> = Cow::Borrowed(&[]);
 
 /// A description to complete: nothing is given, found or known to follow.
 pub const BARE: Operation = Operation {
@@ -132,8 +139,8 @@ pub enum Argument {
     Bytes(usize),
     /// Bytes that are to be an INDEX.
     List(usize),
-    /// Words, the first slice.
-    Lengths,
+    /// How many whole numbers, and these.
+    Numbers,
     /// Bytes that an accepted call changes.
     Row(usize),
     /// How many words are lent.
@@ -201,7 +208,8 @@ impl<'a> Call<'a> {
         let (kind, value, number, profile, budget, room) = (0, 0, 0, 0, 0, 0);
         let none = || Cow::Borrowed(&[][..]);
         let (slices, rows, words) = ([none(), none(), none()], [none(), none()], 0);
-        Call { operation, kind, value, number, profile, budget, room, slices, rows, words }
+        let numbers = NO_NUMBERS;
+        Call { operation, kind, value, number, profile, budget, room, slices, numbers, rows, words }
     }
 
     pub fn fixed(&self) -> bool {
@@ -210,12 +218,6 @@ impl<'a> Call<'a> {
 
     pub fn strict(&self) -> bool {
         self.profile != 0
-    }
-
-    /// The lengths that an INDEX is written from.
-    pub fn lengths(&self) -> Vec<u32> {
-        let words = self.slices[0].chunks_exact(4);
-        words.map(|word| u32::from_be_bytes([word[0], word[1], word[2], word[3]])).collect()
     }
 
     /// The bytes that an argument has, if any.
@@ -236,11 +238,11 @@ impl<'a> Call<'a> {
         self
     }
 
-    /// The same call, whose slices and rows stand where this one's do.
+    /// The same call, whose slices, numbers and rows stand where this one's do.
     pub fn again(&self) -> Call<'_> {
         let slices = self.slices.each_ref().map(|slice| Cow::Borrowed(&slice[..]));
         let rows = self.rows.each_ref().map(|row| Cow::Borrowed(&row[..]));
-        Call { slices, rows, ..*self }
+        Call { slices, numbers: Cow::Borrowed(&self.numbers), rows, ..*self }
     }
 
     /// The same call with a slice in the place of another.
@@ -250,11 +252,11 @@ impl<'a> Call<'a> {
         other
     }
 
-    /// The same call, of its own bytes.
+    /// The same call, of its own bytes and numbers.
     pub fn owned(&self) -> Call<'static> {
         let slices = self.slices.each_ref().map(|slice| Cow::Owned(slice.to_vec()));
         let rows = self.rows.each_ref().map(|row| Cow::Owned(row.to_vec()));
-        Call { slices, rows, ..*self }
+        Call { slices, numbers: Cow::Owned(self.numbers.to_vec()), rows, ..*self }
     }
 }
 
@@ -304,6 +306,16 @@ impl Operation {
         self.found != Found::Nothing
     }
 
+    /// Whether its first list is a font's charstrings, and the others are its subroutines.
+    pub fn takes_font(&self) -> bool {
+        (0..3).all(|i| self.arguments.contains(&Argument::List(i)))
+    }
+
+    /// Whether numbers are lent to it.
+    pub fn takes_numbers(&self) -> bool {
+        self.arguments.contains(&Argument::Numbers)
+    }
+
     /// Whether rows are lent to it.
     pub fn takes_rows(&self) -> bool {
         self.arguments.contains(&Argument::Row(0))
@@ -346,7 +358,6 @@ impl Argument {
     pub fn slice(self) -> Option<usize> {
         match self {
             Argument::Bytes(i) | Argument::List(i) => Some(i),
-            Argument::Lengths => Some(0),
             _ => None,
         }
     }
@@ -354,7 +365,6 @@ impl Argument {
     pub fn word(self) -> &'static str {
         match self {
             Argument::List(_) => "list   ",
-            Argument::Lengths => "lengths",
             Argument::Row(_) => "row    ",
             _ => "bytes  ",
         }

@@ -15,7 +15,7 @@ pub const MOST_WORDS: usize = 192;
 pub const UNREADABLE: &str = "?";
 
 impl Call<'_> {
-    /// Each argument in a record's order: one byte, a word, or a length and its bytes.
+    /// Each argument in a record's order: one byte, a word, or a length and its bytes or words.
     pub fn record(&self) -> Vec<u8> {
         let mut record = vec![self.operation.number];
         for argument in self.operation.arguments {
@@ -27,10 +27,13 @@ impl Call<'_> {
                 Argument::Budget => record.extend(self.budget.to_be_bytes()),
                 Argument::Room => record.extend((self.room as u32).to_be_bytes()),
                 Argument::Words => record.extend((self.words as u32).to_be_bytes()),
-                Argument::Bytes(_) | Argument::List(_) | Argument::Lengths | Argument::Row(_) => {
+                Argument::Numbers => {
+                    record.extend((self.numbers.len() as u32).to_be_bytes());
+                    record.extend(self.numbers.iter().flat_map(|number| number.to_be_bytes()));
+                }
+                Argument::Bytes(_) | Argument::List(_) | Argument::Row(_) => {
                     let bytes = self.bytes(*argument).map_or(&[][..], |bytes| &bytes[..]);
-                    let unit = if *argument == Argument::Lengths { 4 } else { 1 };
-                    record.extend((bytes.len() as u32 / unit).to_be_bytes());
+                    record.extend((bytes.len() as u32).to_be_bytes());
                     record.extend(bytes);
                 }
             }
@@ -68,6 +71,9 @@ impl Call<'_> {
         for argument in self.operation.arguments {
             if let Some(bytes) = self.bytes(*argument) {
                 text += &format!("\n  {} {}", argument.word(), shown(bytes));
+            }
+            if *argument == Argument::Numbers {
+                text += &format!("\n  numbers {}", counted(&self.numbers));
             }
         }
         text + "\n"
@@ -111,8 +117,15 @@ fn said(kind: i64, value: Option<i64>) -> String {
 }
 
 /// A list of thousands of empty entries is not read by anyone.
+const SHOWN: usize = 2000;
+
+/// How many numbers, and these.
+fn counted(numbers: &[u32]) -> String {
+    let rest = if numbers.len() > SHOWN { ".." } else { "" };
+    format!("{}: {:?}{rest}", numbers.len(), &numbers[..numbers.len().min(SHOWN)])
+}
+
 fn shown(bytes: &[u8]) -> String {
-    const SHOWN: usize = 2000;
     let rest = if bytes.len() > SHOWN { ".." } else { "" };
     format!("{}{rest}", hex(&bytes[..bytes.len().min(SHOWN)]))
 }

@@ -8,8 +8,9 @@ use crate::lend::MOST_ROOM;
 use crate::operation::{Call, Outcome};
 use crate::operations::explain::explained;
 use crate::operations::flatten_marked::with_exact_rows;
-use crate::operations::{flatten, flatten_font, OPERATIONS};
+use crate::operations::{flatten, flatten_font, flatten_glyphs, OPERATIONS};
 use crate::random::Random;
+use crate::rules::index::formed;
 use crate::shrink::described;
 use crate::tally::Tally;
 use crate::threads::{Done, Work};
@@ -29,6 +30,9 @@ const LONG_ROOM: usize = 1024;
 /// Of a font so many glyphs, spread evenly, are run with rows too, and so many explained: each of these has lists made anew.
 const WITH_ROWS: usize = 500;
 const EXPLAINED: usize = 150;
+
+/// So many glyphs, spread evenly, are asked for by their numbers.
+const NUMBERED: usize = 60;
 
 /// Words for as many calls as can be open.
 const WORDS: usize = 189;
@@ -186,7 +190,8 @@ impl Run {
     }
 }
 
-/// Glyph by glyph, at times with rows too or explained, and in one call for each local list in both profiles.
+/// Glyph by glyph, at times with rows too or explained; and in one call for each local list in both profiles, and some of its
+/// glyphs, the last first.
 fn of_font(part: &mut Part, font: &Font, most: usize) -> Result<(), String> {
     let glyphs = font.glyphs().count();
     let step = glyphs.div_ceil(most).max(1);
@@ -210,6 +215,10 @@ fn of_font(part: &mut Part, font: &Font, most: usize) -> Result<(), String> {
         let room = (4 * slices[0].len() + 64).min(MOST_ROOM);
         let call = Call { budget: LONG, room, slices, ..Call::of(&flatten_font::OPERATION) };
         part.look(&Call { profile: STRICT, ..call.again() }, 3)?;
+        let count = formed(&call.slices[0]).unwrap_or(0) as usize;
+        let spread = (0..count).rev().step_by(count.div_ceil(NUMBERED).max(1));
+        let numbers = spread.map(|number| number as u32).collect();
+        part.look(&flatten_glyphs::numbered(call.again(), numbers), 3)?;
         part.look(&call, 3)?;
     }
     Ok(())

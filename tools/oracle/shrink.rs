@@ -4,9 +4,12 @@ use crate::compare::{Comparison, Difference};
 use crate::inputs::case::list;
 use crate::operation::{Argument, Call};
 use crate::rules::index::entries;
+use std::borrow::Cow;
 
-/// How many smaller inputs are tried, and the budget beyond which no run of theirs is followed.
+/// How many smaller inputs are tried, one with so many numbers more counting as one more; and the budget beyond which no run of
+/// theirs is followed.
 const TRIES: u32 = 20_000;
+const NUMBERS: usize = 100;
 const MOST_BUDGET: u32 = 1_100_000;
 
 struct Shrinking<'a> {
@@ -18,8 +21,11 @@ struct Shrinking<'a> {
 /// The description of a difference, on the smallest input that was found.
 pub fn described(comparison: &mut Comparison, found: Difference) -> String {
     let lengths = |call: &Call| -> Vec<usize> {
-        let all = call.operation.arguments.iter().filter_map(|argument| call.bytes(*argument));
-        all.map(|bytes| bytes.len()).collect()
+        let size = |argument: &Argument| match argument {
+            Argument::Numbers => Some(size_of_val(&call.numbers[..])),
+            _ => call.bytes(*argument).map(|bytes| bytes.len()),
+        };
+        call.operation.arguments.iter().filter_map(size).collect()
     };
     let before = lengths(&found.call);
     let mut shrinking = Shrinking { comparison, tries: TRIES, smallest: found };
@@ -31,7 +37,7 @@ pub fn described(comparison: &mut Comparison, found: Difference) -> String {
     let Difference { call, why } = shrinking.smallest;
     let after = lengths(&call);
     format!(
-        "{}{why}  found with slices and rows of {before:?} bytes, and cut to {after:?}\n",
+        "{}{why}  found with slices, numbers and rows of {before:?} bytes, and cut to {after:?}\n",
         call.described()
     )
 }
@@ -42,7 +48,8 @@ impl Shrinking<'_> {
         if self.tries == 0 {
             return false;
         }
-        self.tries -= 1;
+        let cost = 1 + call.numbers.len() / NUMBERS;
+        self.tries = self.tries.saturating_sub(cost as u32);
         match self.comparison.one(&call) {
             Ok(_) => false,
             Err(smaller) => {
@@ -65,14 +72,14 @@ impl Shrinking<'_> {
         let mut smaller = false;
         for &argument in self.smallest.call.operation.arguments {
             smaller |= match argument {
-                Argument::Bytes(_) | Argument::Row(_) => self.drop_bytes(argument, 1),
-                Argument::Lengths => self.drop_bytes(argument, 4),
+                Argument::Bytes(_) | Argument::Row(_) => self.drop_bytes(argument),
+                Argument::Numbers => self.drop_numbers(),
                 Argument::List(_) => match entries(&self.bytes(argument)) {
                     Ok(entries) => {
                         let entries = entries.into_iter().map(<[u8]>::to_vec).collect();
                         self.drop_from_entries(argument, entries)
                     }
-                    Err(_) => self.drop_bytes(argument, 1),
+                    Err(_) => self.drop_bytes(argument),
                 },
                 Argument::Words => self.lend_fewer_words(),
                 _ => false,
@@ -87,24 +94,37 @@ impl Shrinking<'_> {
         fewer.any(|words| self.differs(Call { words, ..self.smallest.call.clone() }))
     }
 
-    /// Leaves out runs of bytes, long ones first.
-    fn drop_bytes(&mut self, argument: Argument, unit: usize) -> bool {
+    fn drop_bytes(&mut self, argument: Argument) -> bool {
+        self.drop_runs(self.bytes(argument), |own, fewer| own.with(argument, fewer))
+    }
+
+    fn drop_numbers(&mut self) -> bool {
+        self.drop_runs(self.smallest.call.numbers.to_vec(), |own, fewer| {
+            own.differs(Call { numbers: Cow::Owned(fewer), ..own.smallest.call.clone() })
+        })
+    }
+
+    /// Leaves out runs of bytes or numbers, long ones first, where the sides differ with the others too.
+    fn drop_runs<T: Clone>(
+        &mut self,
+        mut all: Vec<T>,
+        mut differs: impl FnMut(&mut Self, Vec<T>) -> bool,
+    ) -> bool {
         let mut smaller = false;
-        let mut bytes = self.bytes(argument);
-        let mut width = bytes.len() / unit * unit;
+        let mut width = all.len();
         while width > 0 {
             let mut at = 0;
-            while at + width <= bytes.len() {
-                let mut fewer = bytes.clone();
+            while at + width <= all.len() && self.tries > 0 {
+                let mut fewer = all.clone();
                 fewer.drain(at..at + width);
-                if self.with(argument, fewer.clone()) {
-                    bytes = fewer;
+                if differs(self, fewer.clone()) {
+                    all = fewer;
                     smaller = true;
                 } else {
-                    at += unit;
+                    at += 1;
                 }
             }
-            width = width / 2 / unit * unit;
+            width /= 2;
         }
         smaller
     }

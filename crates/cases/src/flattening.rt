@@ -7,6 +7,7 @@ use crate::arguments::past_bytes;
 use crate::arguments::shaped;
 use crate::arguments::word_at;
 use crate::indexes::entry_of;
+use crate::indexes::read_words;
 use crate::line::Line;
 use crate::room::copy;
 use crate::room::differ;
@@ -22,12 +23,13 @@ use reading::FlattenedMarked;
 use reading::Profile;
 use reading::Stopped;
 
-// What 8, 32, 33 and 64 begin with: the numbers, and where the lists stand and what follows them. 64 has
-// the number of words in the place of the room.
+// What 8, 32, 33, 34 and 64 begin with: the numbers, and where the charstring or the CharStrings INDEX and
+// the lists stand and what follows them. 64 has the number of words in the place of the room.
 struct Asked {
     strict: bool,
     budget: u32,
     room: usize,
+    string: usize,
     globals: usize,
     locals: usize,
     behind: usize,
@@ -38,13 +40,16 @@ enum Given {
     Neither,
 }
 
-// Where the charstring stands.
+// Where the charstring stands; in 34, how many glyphs are asked for.
 const STRING: usize = 9;
+
+// Where the numbers of glyphs stand in 34, before the CharStrings INDEX.
+const GLYPHS: usize = 13;
 
 // 8: profile, budget, room, charstring, globals, locals. 33: the same of a `whole` font, with its
 // CharStrings INDEX in the charstring's place.
 pub(crate) fn flatten(args: &[u8], whole: bool, room: &mut [u8]) -> Line {
-    let Given::Asked(asked) = numbers_and_places(args, 3) else {
+    let Given::Asked(asked) = numbers_and_places(args, STRING, 3) else {
         return Line::unasked();
     };
     let size = asked.room;
@@ -53,7 +58,7 @@ pub(crate) fn flatten(args: &[u8], whole: bool, room: &mut [u8]) -> Line {
     }
     let lent = &mut room[0..size];
     fill(lent);
-    let strings = bytes_at(args, STRING);
+    let strings = bytes_at(args, asked.string);
     let globals = bytes_at(args, asked.globals);
     let locals = bytes_at(args, asked.locals);
     let profile = profile(asked.strict);
@@ -65,6 +70,39 @@ pub(crate) fn flatten(args: &[u8], whole: bool, room: &mut [u8]) -> Line {
     flattened(answer, lent)
 }
 
+// 34: profile, budget, room, n, n numbers of glyphs, and then the three of 33. A record has no room for more
+// numbers than the slice lent for them.
+pub(crate) fn flatten_glyphs(args: &[u8], numbers: &mut [u32], room: &mut [u8]) -> Line {
+    if args.len() < GLYPHS {
+        return Line::unasked();
+    }
+    let n = word_at(args, STRING) as usize;
+    let Given::Asked(asked) = numbers_and_places(args, GLYPHS + 4 * n, 3) else {
+        return Line::unasked();
+    };
+    if numbers.len() < n {
+        return Line::unasked();
+    }
+    let size = asked.room;
+    if room.len() < size {
+        return Line::unasked();
+    }
+    let given = &mut numbers[0..n];
+    read_words(&args[GLYPHS..], given);
+    let lent = &mut room[0..size];
+    fill(lent);
+    let answer = font::flatten_glyphs(
+        bytes_at(args, asked.string),
+        given,
+        bytes_at(args, asked.globals),
+        bytes_at(args, asked.locals),
+        profile(asked.strict),
+        asked.budget,
+        lent,
+    );
+    font_flattened(answer, lent)
+}
+
 // 32: those of 8, and then the globals' row and the locals' as lent. A row is copied to the slice lent
 // for it, and one that is longer asks for nothing.
 pub(crate) fn flatten_marked(
@@ -73,7 +111,7 @@ pub(crate) fn flatten_marked(
     globals_row: &mut [u8],
     locals_row: &mut [u8],
 ) -> Line {
-    let Given::Asked(asked) = numbers_and_places(args, 5) else {
+    let Given::Asked(asked) = numbers_and_places(args, STRING, 5) else {
         return Line::unasked();
     };
     let first = bytes_at(args, asked.behind);
@@ -111,7 +149,7 @@ fn mark(
     locals_row: &mut [u8],
 ) -> FlattenedMarked {
     charstring::flatten_marked(
-        bytes_at(args, STRING),
+        bytes_at(args, asked.string),
         bytes_at(args, asked.globals),
         bytes_at(args, asked.locals),
         profile(asked.strict),
@@ -124,7 +162,7 @@ fn mark(
 
 // 64: profile, budget, words, charstring, globals, locals. So many of the words are lent.
 pub(crate) fn explain(args: &[u8], words: &mut [u64]) -> Line {
-    let Given::Asked(asked) = numbers_and_places(args, 3) else {
+    let Given::Asked(asked) = numbers_and_places(args, STRING, 3) else {
         return Line::unasked();
     };
     let size = asked.room;
@@ -134,7 +172,7 @@ pub(crate) fn explain(args: &[u8], words: &mut [u64]) -> Line {
     let lent = &mut words[0..size];
     fill_words(lent);
     let answer = charstring::explain(
-        bytes_at(args, STRING),
+        bytes_at(args, asked.string),
         bytes_at(args, asked.globals),
         bytes_at(args, asked.locals),
         profile(asked.strict),
@@ -144,20 +182,21 @@ pub(crate) fn explain(args: &[u8], words: &mut [u64]) -> Line {
     explained(answer, lent)
 }
 
-// What is asked, where the arguments are the numbers and so many `bytes`.
-fn numbers_and_places(args: &[u8], count: usize) -> Given {
-    if !shaped(args, STRING, count) {
+// What is asked, where the arguments are numbers up to a place, and then so many `bytes`.
+fn numbers_and_places(args: &[u8], string: usize, count: usize) -> Given {
+    if !shaped(args, string, count) {
         return Given::Neither;
     }
     let Flag::Is(strict) = flag_at(args, 0) else {
         return Given::Neither;
     };
-    let globals = past_bytes(args, STRING);
+    let globals = past_bytes(args, string);
     let locals = past_bytes(args, globals);
     Given::Asked(Asked {
         strict: strict,
         budget: word_at(args, 1),
         room: word_at(args, 5) as usize,
+        string: string,
         globals: globals,
         locals: locals,
         behind: past_bytes(args, locals),
@@ -225,7 +264,8 @@ fn operand(o: Operand, line: Line) -> Line {
     told
 }
 
-// `0 N HEX`; `9 GLYPH TOKENS` or `15 GLYPH`; 26 as 1 and 2.
+// `0 N HEX`; `9 GLYPH TOKENS` or `15 GLYPH`; 26 as 1 and 2. In 34 a glyph is told by its place, and `22` and
+// `25 PLACE` come too.
 fn font_flattened(answer: FontFlattened, room: &[u8]) -> Line {
     let line = Line::of(answer.number());
     match answer {
@@ -233,6 +273,8 @@ fn font_flattened(answer: FontFlattened, room: &[u8]) -> Line {
         FontFlattened::BadGlobals(flaw) => flawed(flaw, line).keeps(room),
         FontFlattened::BadLocals(flaw) => flawed(flaw, line).keeps(room),
         FontFlattened::BadCharstrings(flaw) => flawed(flaw, line).keeps(room),
+        FontFlattened::TooMany => line.keeps(room),
+        FontFlattened::NoGlyph(place) => line.value(place as u64).keeps(room),
         FontFlattened::Refused(glyph, why) => { stopped(why, line.value(glyph as u64)).keeps(room) }
         FontFlattened::TooLong => line.keeps(room),
         FontFlattened::NoRoom(n) => line.value(n as u64).keeps(room),

@@ -141,7 +141,7 @@ pub(crate) fn entry_of(flaw: Flaw, line: Line) -> Line {
 }
 
 // Reads the numbers of four bytes at the start of s, as many as there are places for.
-fn read_words(s: &[u8], words: &mut [u32]) {
+pub(crate) fn read_words(s: &[u8], words: &mut [u32]) {
     let mut i = 0;
     while i < words.len() && i < s.len() / 4 {
         words[i] = word_at(s, 4 * i);

@@ -21,9 +21,9 @@ ghost use mathlib.Core.Path.{_≡_};
 ghost use lib.ListN.{length};
 
 // The limits of a record's N, of a room, of a row and of the words are the lengths of these, and no
-// record has room for more lengths than there are places. A row of 65,535 entries takes 8,192 bytes, so
-// one may have as many behind it; all open calls take 189 words. They stand on the stack, which has to
-// hold some 3.3 million bytes.
+// record has room for more lengths or numbers of glyphs than there are places. A row of 65,535 entries
+// takes 8,192 bytes, so one may have as many behind it; all open calls take 189 words. They stand on the
+// stack, which has to hold some 3.3 million bytes.
 fn main() {
     let mut buffer = mebibyte();
     let mut room = mebibyte();
@@ -133,7 +133,7 @@ fn answer_record(
     write_line(line, room, globals_row, locals_row, words, text)
 }
 
-// The line of a record. What an operation takes as lengths, as rows or as words is gathered in the
+// The line of a record. What an operation takes as lengths or numbers, as rows or as words is gathered in the
 // slices lent for it. An operation whose number was given with a request has one from 32 on, and one
 // of our own from 64 on.
 fn answer(
@@ -164,6 +164,7 @@ fn answer(
         12 => indexes::read_entry_by_view(args, room),
         32 => flattening::flatten_marked(args, room, globals_row, locals_row),
         33 => flattening::flatten(args, true, room),
+        34 => flattening::flatten_glyphs(args, lengths, room),
         64 => flattening::explain(args, words),
         _ => Line::unasked(),
     }

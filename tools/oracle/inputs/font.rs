@@ -21,11 +21,11 @@ pub struct Font {
 }
 
 /// How many bytes of flat strings, and how many lengths, a call keeps, so that it runs each glyph just once.
-const KEPT_BYTES: u64 = 49_152;
-const KEPT_GLYPHS: usize = 4096;
+pub(super) const KEPT_BYTES: u64 = 49_152;
+pub(super) const KEPT_GLYPHS: usize = 4096;
 
 /// The largest last offset of each size.
-const BOUNDS: [u64; 4] = [255, 65_535, 16_777_215, 4_294_967_295];
+pub(super) const BOUNDS: [u64; 4] = [255, 65_535, 16_777_215, 4_294_967_295];
 
 /// Those of the list, each once.
 pub fn listed() -> Vec<Given> {
@@ -73,17 +73,17 @@ pub fn more() -> Vec<Given> {
 }
 
 impl Font {
-    fn of(glyphs: &[&[u8]], locals: &[u8]) -> Self {
+    pub(super) fn of(glyphs: &[&[u8]], locals: &[u8]) -> Self {
         let glyphs = glyphs.iter().map(|glyph| glyph.to_vec()).collect();
         Font { glyphs, globals: NONE.to_vec(), locals: locals.to_vec() }
     }
 
-    fn case(&self) -> Case {
+    pub(super) fn case(&self) -> Case {
         Case::new(&list(&self.glyphs), &self.globals, &self.locals)
     }
 
     /// What each glyph gives by itself.
-    fn verdicts(&self, profile: u32) -> Vec<Verdict> {
+    pub(super) fn verdicts(&self, profile: u32) -> Vec<Verdict> {
         let Font { glyphs, globals, locals } = self;
         let strict = profile == STRICT;
         let verdict = |charstring: &Vec<u8>| {
@@ -275,7 +275,7 @@ fn many() -> Vec<Given> {
 
 /// So many glyphs whose flat strings have just so many bytes together, each an endchar at its end where it has any. Beyond a
 /// megabyte these are masks of 8,192 bytes, behind 65,535 hints, which only plain takes.
-fn long(count: usize, sum: u64) -> Font {
+pub(super) fn long(count: usize, sum: u64) -> Font {
     const MASK: u64 = 8192;
     const FEWEST: u64 = 1 << 20;
     let moves = Ladder { first: 0, rungs: 6 };
@@ -304,13 +304,18 @@ fn long(count: usize, sum: u64) -> Font {
     Font { glyphs, globals: NONE.to_vec(), locals: list(&entries) }
 }
 
-/// A font that mostly is accepted: a few charstrings, at times some tens, that share their lists, some of them loose or hurt;
-/// now and then a list in the place of one of the three, of which many are bad; and now and then a long one.
+/// A short font, and now and then a long one.
 pub fn any(random: &mut Random) -> Given {
     let profile = random.within(0, 1) as u32;
     if random.once_in(40) {
         return any_long(random).case().asked(profile, u32::MAX, random.within(0, 40) as usize);
     }
+    any_short(profile, random)
+}
+
+/// A font that mostly is accepted: a few charstrings, at times some tens, that share their lists, some of them loose or hurt;
+/// now and then a list in the place of one of the three, of which many are bad.
+pub(super) fn any_short(profile: u32, random: &mut Random) -> Given {
     let count = if random.once_in(10) { random.within(0, 40) } else { random.within(0, 5) };
     let mut font = structured_font(count as usize, random);
     for glyph in &mut font.glyphs {
@@ -341,13 +346,13 @@ fn change(list: &mut Vec<u8>, random: &mut Random) {
 }
 
 /// Around a bound of the offsets or of what is kept; now and then too much for an INDEX; at times with a glyph that mostly is refused.
-fn any_long(random: &mut Random) -> Font {
+pub(super) fn any_long(random: &mut Random) -> Font {
     let near = random.within(0, 2) as u64;
     let mut font = match random.within(0, 9) {
         0 => long(2, BOUNDS[3] - 1 + near),
         1 | 2 => {
             let glyph: &[u8] = random.one_of(&[&[][..], &[0x0E]]);
-            Font::of(&vec![glyph; KEPT_GLYPHS - 1 + near as usize], NONE)
+            Font::of(&vec![glyph; KEPT_GLYPHS + near as usize], NONE)
         }
         3..=5 => long(random.within(1, 9) as usize, 65_533 + near),
         _ => long(random.within(1, 9) as usize, KEPT_BYTES - 1 + near),

@@ -6,6 +6,7 @@ mod edges;
 pub mod explaining;
 pub mod flattening;
 pub mod font;
+pub mod glyphs;
 pub mod index;
 mod loose;
 pub mod marking;

@@ -25,4 +25,5 @@ operations! {
     flatten_font
     flatten_marked
     explain
+    flatten_glyphs
 }

@@ -14,7 +14,7 @@ use std::borrow::Cow;
 pub static OPERATION: Operation = Operation {
     number: 7,
     name: "write_index",
-    arguments: &[Argument::Lengths, Argument::Bytes(1), Argument::Room],
+    arguments: &[Argument::Numbers, Argument::Bytes(0), Argument::Room],
     places: &[Place::Size],
     answers: &[(0, 1), (13, 1), (22, 0), (23, 0), (24, 0)],
     found: Found::Written,
@@ -29,15 +29,14 @@ pub static OPERATION: Operation = Operation {
 };
 
 fn invoke(_: &Call, lent: &Lent) -> u32 {
-    let [(lengths, words), (data, size), _] = lent.slices;
-    let (lengths, count) = (lengths.cast(), words / 4);
+    let ((lengths, count), (data, size)) = (lent.numbers, lent.slices[0]);
     unsafe { ighzamrel_write_index(lengths, count, data, size, lent.out, lent.room, lent.place(0)) }
 }
 
 fn write(lengths: &[u32], joined: &[u8], room: usize) -> Call<'static> {
     let mut call = Call { room, ..Call::of(&OPERATION) };
-    call.slices[0] = lengths.iter().flat_map(|length| length.to_be_bytes()).collect();
-    call.slices[1] = Cow::Owned(joined.to_vec());
+    call.numbers = Cow::Owned(lengths.to_vec());
+    call.slices[0] = Cow::Owned(joined.to_vec());
     call
 }
 
@@ -175,14 +174,14 @@ fn any_lengths(random: &mut Random) -> Vec<u32> {
 }
 
 fn owed(call: &Call) -> Result<Owed, String> {
-    let (lengths, data) = (call.lengths(), &call.slices[1]);
-    match rules::written(&lengths, data) {
+    let (lengths, data) = (&call.numbers[..], &call.slices[0]);
+    match rules::written(lengths, data) {
         Ok(rule) => {
-            let source = source::written(elements(&lengths, data));
+            let source = source::written(elements(lengths, data));
             Owed::by_both(into_room(call, rule.clone()), Some(rule), source)
         }
         Err(22) => {
-            let source = source::written(elements(&lengths, data));
+            let source = source::written(elements(lengths, data));
             Owed::by_both(Outcome::refused(22), None, source)
         }
         Err(refusal) => Ok(Owed::by_rule(Outcome::refused(refusal))),
@@ -207,7 +206,7 @@ fn next<'a>(call: &'a Call<'a>, outcome: &'a Outcome) -> Vec<Next<'a>> {
     if outcome.answer != 0 {
         return next;
     }
-    let lengths = call.lengths();
+    let lengths = &call.numbers;
     let size = outcome.bytes.len();
     let whole = vec![lengths.len() as i64, size as i64];
     next.extend(read_back(&read_index::OPERATION, outcome, whole));
@@ -216,7 +215,7 @@ fn next<'a>(call: &'a Call<'a>, outcome: &'a Outcome) -> Vec<Next<'a>> {
         next.call.number = number as u32;
         Some(next)
     };
-    let mut place = size - call.slices[1].len();
+    let mut place = size - call.slices[0].len();
     for (i, &length) in lengths.iter().enumerate() {
         if i < 7 || i + 1 == lengths.len() {
             next.extend(entry(i, vec![place as i64, length.into()]));
