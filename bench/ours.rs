@@ -1,8 +1,11 @@
 //! Flattening by ours.
 
+// each program calls some of these
+#![allow(dead_code)]
+
 use oracle::fonts::Glyph;
 use oracle::inputs::case::PLAIN;
-use oracle::library::{flatten_font_to, flatten_marked_to, flatten_to, Places};
+use oracle::library::{flatten_font_to, flatten_glyphs_to, flatten_marked_to, flatten_to, Places};
 
 /// What ours answers: the number, the length and the tokens.
 #[derive(Clone, Copy)]
@@ -39,5 +42,14 @@ pub fn ours_of_font(font: &Glyph, budget: u32, out: &mut [u8]) -> Answer {
     let Glyph { charstring: charstrings, globals, locals } = *font;
     let mut places = Places::default();
     let number = flatten_font_to([charstrings, globals, locals], PLAIN, budget, out, &mut places);
+    Answer { number, length: places.length, tokens: places.tokens }
+}
+
+/// The glyphs with these numbers, as a whole font's.
+pub fn ours_of_glyphs(font: &Glyph, numbers: &[u32], budget: u32, out: &mut [u8]) -> Answer {
+    let Glyph { charstring: charstrings, globals, locals } = *font;
+    let mut places = Places::default();
+    let slices = [charstrings, globals, locals];
+    let number = flatten_glyphs_to(slices, numbers, PLAIN, budget, out, &mut places);
     Answer { number, length: places.length, tokens: places.tokens }
 }

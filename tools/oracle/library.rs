@@ -5,7 +5,7 @@
 mod ffi;
 
 pub use ffi::c::*;
-pub use ffi::{flatten_font_to, flatten_marked_to, flatten_to, Places};
+pub use ffi::{flatten_font_to, flatten_glyphs_to, flatten_marked_to, flatten_to, Places};
 
 extern "C" {
     pub fn tried_callee(kind: u32, value: i32, profile: u32, count: u32, entry: *mut u32) -> u32;

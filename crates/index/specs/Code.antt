@@ -7,6 +7,7 @@ use lib.ListN.{length, getD}
 use Rattle.number.specs.Answer.{Answer, accepted, refused}
 use Rattle.number.specs.BigEndian.{beAt}
 use Rattle.index.specs.Index.{Place, dataStart, offset}
+use Rattle.index.specs.Formed.{entriesFrom, formation}
 
 -- an offset size, and the mask that keeps so many low bytes
 pub record Sized (z mask : ℕ) : Type 0 where
@@ -38,6 +39,16 @@ pub record Full (w : ℕ) (s : List ℕ) (n : ℕ) : Type 0 where
   pub head : Headed w s n
   pub last-pos : 0 < offsetOf w s n
   pub inside : reach w s n ≤ length s
+
+-- up to offset k none is below the one before it
+abbrev pub Rising : ℕ → List ℕ → ℕ → Type 0
+Rising w s k = (j : ℕ) → j < k → offsetOf w s j ≤ offsetOf w s (j + 1)
+
+-- What a pass over n entries may go on from: all before number i are present.
+pub record Passed (w : ℕ) (s : List ℕ) (n i : ℕ) : Type 0 where
+  pub within : i ≤ n
+  pub some : 0 < offsetOf w s i
+  pub rest : entriesFrom w s i (n - i) ≡ formation w s
 
 -- an entry's part lies within the bytes, if there is one
 abbrev pub Inside : List ℕ → Answer Place → Type 0

@@ -3,7 +3,7 @@ use mathlib.Core.Path.{_≡_, refl, sym, ap, subst, _∙_}
 use mathlib.Core.List.{List}
 use mathlib.Core.Bool.{Bool, true, false, cond}
 use Prim.Native.Nat.{ℕ, zero, suc, _+_, _-_, _<_, _≤_}
-use native.Mathlib.Nat.{zero-add, sub-zero}
+use native.Mathlib.Nat.{zero-add, add-zero, sub-zero, le-refl}
 use native.Mathlib.Omega.{arith}
 use lib.Dec.{eqb, ltb}
 use lib.ListN.{getD}
@@ -12,8 +12,8 @@ use Rattle.number.specs.Answer.{Values, Answer, accepted, refused, alone, atEnt
 use Rattle.number.specs.AnswerLaws.{refused-accepted, accepted-same}
 use Rattle.number.specs.BigEndian.{beAt}
 use Rattle.index.specs.Index.{Extent, Place, extent, placeOf, placeIn, place}
-use Rattle.index.specs.Code.{Full}
-use Rattle.index.specs.IndexLaws.{has, Shape, none, emptied, full, shape, not-past, emptied-place, full-read}
+use Rattle.index.specs.Code.{Full, offsetOf, Rising, Passed}
+use Rattle.index.specs.IndexLaws.{has, Shape, none, emptied, full, shape, not-past, emptied-place, full-read, present}
 use Rattle.index.specs.Formed.{unless, entriesFrom, formedBy, formation}
 
 -- ---- the entries from i on, up to n
@@ -60,6 +60,34 @@ module _ (w : ℕ) (s : List ℕ) where
 -- an INDEX with entries is judged by all of them
 pub from-first : (w : ℕ) (s : List ℕ) {n : ℕ} → Full w s n → entriesFrom w s 0 (n - 0) ≡ formation w s
 from-first w s f = counted w s (full-read w s f refl) (f .head .count)
+
+-- ---- offsets that rise
+
+module _ (w : ℕ) (s : List ℕ) {k : ℕ} (up : Rising w s k) where
+  rising-le : (i d : ℕ) → i + d ≤ k → offsetOf w s i ≤ offsetOf w s (i + d)
+  rising-le i zero h = rw (add-zero i) (le-refl (offsetOf w s i))
+  rising-le i (suc d) h =
+      let e : i + suc d ≡ i + d + 1 = omega arith in rw e (omega (arith, rising-le i d (omega arith), up (i + d) (omega arith)))
+
+-- entries whose offsets rise, the first from more than 0 and the last to no more than the last of all, are present
+module _ (w : ℕ) (s : List ℕ) {n : ℕ} (f : Full w s n) (first : 0 < offsetOf w s 0) where
+  pub none-passed : Passed w s n 0
+  none-passed = record { within = omega arith; some = first; rest = from-first w s f }
+
+  pub passed-up : (k : ℕ) → k ≤ n → Rising w s k → offsetOf w s k ≤ offsetOf w s n → Passed w s n k
+  passed-up k h up low = go k (omega arith)
+    where
+      go : (i : ℕ) → i ≤ k → Passed w s n i
+      go zero l = none-passed
+      go (suc i) l =
+          let before = go i (omega arith) in
+          let rise = up i (omega arith) in
+          let e : i + 1 + (k - (i + 1)) ≡ k = omega arith in
+          let below = subst (λ (j : ℕ). offsetOf w s (i + 1) ≤ offsetOf w s j) e (rising-le w s up (i + 1) (k - (i + 1)) (omega arith)) in
+          let here = present w s i f refl refl (omega arith) (before .some) rise (omega arith) refl refl in
+          let next : i + 1 ≡ suc i = omega arith in
+          let rest = next-entry w s (omega arith) here ∙ before .rest in
+          subst (Passed w s n) next (record { within = omega arith; some = omega arith; rest = rest })
 
 -- ---- what it says
 

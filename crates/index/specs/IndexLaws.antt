@@ -214,6 +214,23 @@ module _ (w : ℕ) (s : List ℕ) (n t : ℕ) where
         go (emptied {m} h l en et) = omega (arith, start-is w m (getD s w 0))
         go (full f et) = omega (arith, start-is w n (getD s w 0))
 
+    -- without entries, it is a count of 0 that is all of it
+    pub alone-zero : n ≡ 0 → t ≡ w → beAt s 0 w ≡ 0
+    alone-zero h k = go shape
+      where
+        go : Shape w s n t → beAt s 0 w ≡ 0
+        go (none l c en et) = c
+        go (emptied {m} f l en et) = absurd (omega (arith, start-is w m (getD s w 0)))
+        go (full f et) = absurd (omega arith)
+
+    pub zero-alone : beAt s 0 w ≡ 0 → t ≡ w
+    zero-alone h = go shape
+      where
+        go : Shape w s n t → t ≡ w
+        go (none l c en et) = et
+        go (emptied f l en et) = absurd (omega arith)
+        go (full f et) = absurd (omega arith)
+
     -- entries, if there are any
     pub entries-full : 0 < n → (Full w s n) × (t ≡ reach w s n)
     entries-full h = go shape

@@ -39,7 +39,7 @@ pub(crate) fn mask_of(size: usize) -> u32
 }
 
 // The number that the four bytes from `at` on are, written so that it compiles to one load.
-fn word(s: &[u8], at: usize) -> u32
+pub(crate) fn word(s: &[u8], at: usize) -> u32
     requires { ⌜ at + 4 ≤ length (now s) ⌝ }
     ensures { λ r. ⌜ r ≡ beAt (now (s .entry)) at 4 ⌝ }
 {

@@ -6,7 +6,7 @@ use Rattle.index.specs.Index.{widthOf, extent, indexRead}
 use Rattle.index.specs.Formed.{formation}
 use Rattle.index.specs.Code.{Full}
 use Rattle.index.specs.FormedLaws.{not-read, no-entries, no-first}
-use Rattle.index.specs.IndexLaws.{has, count-there, entries-full}
+use Rattle.index.specs.IndexLaws.{has, alone-zero, zero-alone, entries-full}
 use borrow.Author.Needs.{needs}
 use Rattle.index.proofs.list.check_list.Statement.{statement}
 use Rattle.index.proofs.list.check_list.Tie as tie
@@ -37,18 +37,17 @@ width-of-requires c κs = search needs
 first-bad-requires : tie.Need-first-bad-requires
 first-bad-requires c κs =
     let counted = c .before .before .before in
-    let w = c .width-of .ensures in
+    let w = c .before .width-of .ensures in
     let full = entries-full _ _ _ _ (read counted) (omega arith) .0 in
     (w .1, subst (λ (k : ℕ). Full k (start counted .args .s .now) (counted .count .given .0 .0)) (sym (w .0)) full)
 
 returns : tie.Need-returns
-returns c = c .first-bad .ensures ∙ ap (λ (k : ℕ). formation k (start (c .before .before .before .before) .args .s .now)) (c .before .width-of .ensures .0)
-
-count-at-requires : tie.Need-count-at-requires
-count-at-requires c κs = count-there _ _ _ _ (read (c .before .before))
+returns c =
+    let at-width = c .before .before in
+    c .first-bad .ensures ∙ ap (λ (k : ℕ). formation k (start (at-width .before .before) .args .s .now)) (at-width .width-of .ensures .0)
 
 returns-2 : tie.Need-returns-2
-returns-2 c = no-entries _ _ (read (c .before .before .before .before)) (omega arith)
+returns-2 c = let e = read (c .before .before .before .before) in no-entries _ _ e (alone-zero _ _ _ _ e (omega arith) (omega arith))
 
 bad-requires : tie.Need-bad-requires
 bad-requires c κs = search needs
@@ -60,7 +59,9 @@ returns-4 : tie.Need-returns-4
 returns-4 c = not-read _ _ 21 (ap indexRead (sym (c .enum-told2 .given .1)) ∙ c .before .before .read-index .ensures)
 
 returns-5 : tie.Need-returns-5
-returns-5 c = c .bad .ensures ∙ no-first _ _ (read (c .before .before .before .before .before)) (omega arith) (λ e. omega arith)
+returns-5 c =
+    let e = read (c .before .before .before .before .before) in
+    c .bad .ensures ∙ no-first _ _ e (omega arith) (λ z. omega (arith, zero-alone _ _ _ _ e z))
 
 pub check-list-spec : {M : Type 1} → statement M
 check-list-spec =
@@ -73,7 +74,6 @@ check-list-spec =
     width-of-requires
     first-bad-requires
     returns
-    count-at-requires
     returns-2
     bad-requires
     returns-3

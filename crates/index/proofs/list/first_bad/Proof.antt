@@ -6,7 +6,7 @@ use lib.ListN.{getD}
 use borrow.Author.Needs.{needs}
 use Rattle.index.specs.FormedLaws.{none-left, next-entry, bad-entry, from-first}
 use Rattle.index.specs.IndexLaws.{absentFor, size-there, zero-offset, descends, passes, present}
-use Rattle.index.specs.OffsetLaws.{start-mono}
+use Rattle.index.specs.OffsetLaws.{start-inside}
 use Rattle.index.specs.Formed.{entriesFrom, formation}
 use Rattle.index.specs.Code.{offsetOf}
 use Rattle.index.proofs.list.first_bad.Statement.{statement}
@@ -34,9 +34,8 @@ offset-at-requires c κs =
 
 offset-at-requires-2 : tie.Need-offset-at-requires-2 Inv-loop μ-loop
 offset-at-requires-2 c κs =
-    let a = c .before .before .before .before .args in
-    let fewer = start-mono (a .width) {i = 0} {n = a .count} (getD (a .s .now) (a .width) 0) (omega arith) in
-    (c .before .mask-of .ensures, (omega arith, omega arith))
+    let pre = c .before .before .before .before .pre in
+    (c .before .mask-of .ensures, (pre .0, start-inside _ _ 0 _ (pre .1 .head) refl (omega arith)))
 
 bad-requires : tie.Need-bad-requires Inv-loop μ-loop
 bad-requires c κs = search needs
@@ -49,23 +48,33 @@ returns c =
     let here = zero-offset _ _ _ f (at-offset-at2 .offset-at2 .ensures .0) refl (f .head .some) (omega arith) in
     c .bad .ensures ∙ bad-entry _ _ (f .head .some) here ∙ from-first _ _ f
 
-loop-holds : tie.Need-loop-holds Inv-loop μ-loop
-loop-holds c =
-    let at-offset-at2 = c .before in
-    let start = at-offset-at2 .before .before .before .before .before in
-    (omega arith, at-offset-at2 .offset-at2 .ensures .0, omega arith, from-first _ _ (start .pre .1))
+passed-requires : tie.Need-passed-requires Inv-loop μ-loop
+passed-requires c κs = (c .before .before .before .before .before .before .pre, (c .before .before .before .mask-of .ensures, refl, omega arith))
 
 cast-offset-at : tie.Need-cast-offset-at Inv-loop μ-loop
 cast-offset-at c = search needs
 
+offset-at-requires-3 : tie.Need-offset-at-requires-3 Inv-loop μ-loop
+offset-at-requires-3 c κs =
+    let pre = c .before .before .before .before .before .before .before .pre in
+    (c .before .before .before .before .mask-of .ensures, (pre .0, start-inside _ _ _ _ (pre .1 .head) refl (omega arith)))
+
+loop-holds : tie.Need-loop-holds Inv-loop μ-loop
+loop-holds c =
+    let p = c .before .passed .ensures in
+    (p .within, c .offset-at3 .ensures .0, omega arith, p .rest)
+
+cast-offset-at-2 : tie.Need-cast-offset-at-2 Inv-loop μ-loop
+cast-offset-at-2 c = search needs
+
 add-offset-at : tie.Need-add-offset-at Inv-loop μ-loop
 add-offset-at c = search needs
 
-offset-at-requires-3 : tie.Need-offset-at-requires-3 Inv-loop μ-loop
-offset-at-requires-3 c κs =
-    let a = c .before .before .before .before .before .before .before .before .args in
-    let fewer = start-mono (a .width) {i = c .before .loop .i + 1} {n = a .count} (getD (a .s .now) (a .width) 0) (omega arith) in
-    (c .before .before .before .before .before .mask-of .ensures, (omega arith, omega arith))
+offset-at-requires-4 : tie.Need-offset-at-requires-4 Inv-loop μ-loop
+offset-at-requires-4 c κs =
+    let before = c .before .before .before .before .before .before .before in
+    let pre = before .before .before .before .pre in
+    (before .mask-of .ensures, (pre .0, start-inside _ _ _ _ (pre .1 .head) refl (omega arith)))
 
 below-requires : tie.Need-below-requires Inv-loop μ-loop
 below-requires c κs = search needs
@@ -76,10 +85,10 @@ bad-requires-2 c κs = search needs
 returns-2 : tie.Need-returns-2 Inv-loop μ-loop
 returns-2 c =
     let at-below = c .before in
-    let at-offset-at3 = at-below .before .before in
-    let at-loop = at-offset-at3 .before .before in
-    let start = at-loop .before .before .before .before .before .before .before in
-    let next = at-offset-at3 .offset-at3 .ensures .0 in
+    let at-offset-at4 = at-below .before .before in
+    let at-loop = at-offset-at4 .before .before in
+    let start = at-loop .before .before .before .before .before .before .before .before .before in
+    let next = at-offset-at4 .offset-at4 .ensures .0 in
     let here = descends _ _ _ (start .pre .1) (at-loop .loop .inv .1) next (omega arith) (omega arith) in
     c .bad2 .ensures ∙ bad-entry _ _ (omega arith) (ap absentFor (at-below .below .ensures) ∙ here) ∙ at-loop .loop .inv .3
 
@@ -88,10 +97,10 @@ bad-requires-3 c κs = search needs
 
 returns-3 : tie.Need-returns-3 Inv-loop μ-loop
 returns-3 c =
-    let at-offset-at3 = c .before .before .before in
-    let at-loop = at-offset-at3 .before .before in
-    let start = at-loop .before .before .before .before .before .before .before in
-    let next = at-offset-at3 .offset-at3 .ensures .0 in
+    let at-offset-at4 = c .before .before .before in
+    let at-loop = at-offset-at4 .before .before in
+    let start = at-loop .before .before .before .before .before .before .before .before .before in
+    let next = at-offset-at4 .offset-at4 .ensures .0 in
     let here = passes _ _ _ (start .pre .1) (at-loop .loop .inv .1) next (omega arith) (omega arith) (omega arith) (omega arith) in
     c .bad3 .ensures ∙ bad-entry _ _ (omega arith) here ∙ at-loop .loop .inv .3
 
@@ -103,10 +112,10 @@ loop-less c = search needs
 
 loop-again : tie.Need-loop-again Inv-loop μ-loop
 loop-again c =
-    let at-offset-at3 = c .before .before in
-    let at-loop = at-offset-at3 .before .before in
-    let start = at-loop .before .before .before .before .before .before .before in
-    let next = at-offset-at3 .offset-at3 .ensures .0 in
+    let at-offset-at4 = c .before .before in
+    let at-loop = at-offset-at4 .before .before in
+    let start = at-loop .before .before .before .before .before .before .before .before .before in
+    let next = at-offset-at4 .offset-at4 .ensures .0 in
     let a = start .args in
     let here = present (a .width) (a .s .now) (at-loop .loop .i) (start .pre .1) (at-loop .loop .inv .1) next
     (omega arith) (omega arith) (omega arith) (omega arith) refl refl in
@@ -128,10 +137,13 @@ first-bad-spec =
     offset-at-requires-2
     bad-requires
     returns
-    loop-holds
+    passed-requires
     cast-offset-at
-    add-offset-at
     offset-at-requires-3
+    loop-holds
+    cast-offset-at-2
+    add-offset-at
+    offset-at-requires-4
     below-requires
     bad-requires-2
     returns-2
