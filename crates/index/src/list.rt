@@ -1,4 +1,4 @@
-// Whether a list of entries is well formed: one pass over its offsets.
+// Whether a list of entries is well formed: a quick look at its offsets, and a pass over what that leaves.
 use crate::absence::Absence;
 use crate::absence::below;
 use crate::offset::mask_of;
