@@ -28,6 +28,7 @@ checks both lists each time, and then ighzamrel_write_index. A font whose glyphs
 
 /// Each list is parsed once, as by the Rust's own subsetting.
 const ALL: Sides = Sides {
+    apart: true,
     numbers: |glyphs| (0..glyphs).collect(),
     ours: |whole, out| ours_of_font(&whole.parts(), BUDGET, out),
     rust: |whole| Lists::read(whole.globals, whole.locals).font(&whole.charstrings),

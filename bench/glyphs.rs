@@ -26,13 +26,15 @@ const PASSES: u32 = 10;
 
 const INTRODUCTION: &str = "\
 Sixty glyphs of each font, spread evenly, or all where it has fewer. Best of 30 passes, ten at a time, the sides in turns. Each side is given the bytes of
-a font's three INDEXes and has to make the INDEX of these glyphs' flat strings; all three make the same bytes. Ours, ighzamrel_flatten_glyphs, looks at
-every offset of the three and is lent one buffer of the result's length; the Rust parses both lists and allocates its own. Glyph by glyph: ighzamrel_flatten
-for each, which looks at both lists each time, and then ighzamrel_write_index. A font whose glyphs go by several local lists counts as a font for each of these.
+a font's three INDEXes as they stand, and has to make the INDEX of these glyphs' flat strings; all three make the same bytes. Ours, ighzamrel_flatten_glyphs,
+looks at every offset of the three and is lent one buffer of the result's length; the Rust parses both lists and allocates its own. Glyph by glyph:
+ighzamrel_flatten for each, which looks at both lists each time, and then ighzamrel_write_index. Where the sixty go by several local lists, each of these takes
+a call, of either side, and their times are added up.
 ";
 
 /// Each list is parsed once, as by the Rust's own subsetting.
 const SIXTY: Sides = Sides {
+    apart: false,
     numbers: spread,
     ours: |whole, out| ours_of_glyphs(&whole.parts(), &whole.numbers, BUDGET, out),
     rust: |whole| {
@@ -53,13 +55,32 @@ fn main() -> ExitCode {
 
 fn of_fonts(found: &[Font]) -> Result<(), String> {
     let (wholes, refused) = whole::timed(found, &SIXTY)?;
-    let wholes: Vec<&Whole> = wholes.iter().collect();
+    looks(&wholes.iter().collect::<Vec<_>>());
+    let fonts = by_font(wholes);
     whole::head();
-    whole::row("all", &wholes);
-    println!();
-    looks(&wholes);
-    println!("CFF tables: {}; fonts that both sides refuse: {refused}", found.len());
+    whole::row("all", &fonts.iter().collect::<Vec<_>>());
+    println!("CFF tables: {}; calls that both sides refuse: {refused}", found.len());
     Ok(())
+}
+
+/// The calls of each font as one: what they make and take together. They are lent the same global list.
+fn by_font(wholes: Vec<Whole<'_>>) -> Vec<Whole<'_>> {
+    let mut fonts: Vec<Whole> = Vec::new();
+    for whole in wholes {
+        match fonts.last_mut().filter(|font| std::ptr::eq(font.globals, whole.globals)) {
+            Some(font) => add(font, whole),
+            None => fonts.push(whole),
+        }
+    }
+    fonts
+}
+
+fn add(font: &mut Whole, whole: Whole) {
+    font.numbers.extend(whole.numbers);
+    font.flat += whole.flat;
+    for (time, more) in font.times.iter_mut().zip(whole.times) {
+        *time += more;
+    }
 }
 
 fn spread(glyphs: u32) -> Vec<u32> {
@@ -68,7 +89,7 @@ fn spread(glyphs: u32) -> Vec<u32> {
     (0..chosen).map(|k| number(k) as u32).collect()
 }
 
-/// How much of ours is the look at the three INDEXes, over all fonts and in the one where it is most.
+/// How much of ours is the look at the three INDEXes, over all calls and in the one where it is most.
 fn looks(wholes: &[&Whole]) {
     let looks: Vec<(f64, u32, &Whole)> = wholes.iter().map(|whole| look(whole)).collect();
     let part = |(time, _, whole): &(f64, u32, &Whole)| time / whole.times[0];

@@ -5,6 +5,7 @@ use crate::timing::best_of;
 use oracle::fonts::{Font, Glyph};
 use oracle::inputs::case::list;
 use oracle::library::{ighzamrel_read_entry, ighzamrel_write_index};
+use std::borrow::Cow;
 use std::hint::black_box;
 use subsetter::Error;
 
@@ -16,16 +17,19 @@ pub const BUDGET: u32 = 1_000_000;
 
 /// What is timed: which glyphs of so many, by ours and by the Rust in one call, and how many passes at a time.
 pub struct Sides {
+    /// Where a font has several local lists, the glyphs of each are a font of their own; else glyphs are chosen from the font as
+    /// it stands, and each list that they go by takes a call.
+    pub apart: bool,
     pub numbers: fn(u32) -> Vec<u32>,
     pub ours: fn(&Whole, &mut [u8]) -> Answer,
     pub rust: fn(&Whole) -> Result<Vec<u8>, Error>,
     pub passes: u32,
 }
 
-/// The glyphs of a font that go by one local list, as a font of their own.
+/// The glyphs of a font that go by one local list.
 pub struct Whole<'a> {
     pub name: String,
-    pub charstrings: Vec<u8>,
+    pub charstrings: Cow<'a, [u8]>,
     pub globals: &'a [u8],
     pub locals: &'a [u8],
     /// The glyphs that are flattened.
@@ -39,10 +43,18 @@ pub struct Whole<'a> {
 }
 
 impl<'a> Whole<'a> {
-    fn new(name: String, glyphs: &[Glyph<'a>], numbers: fn(u32) -> Vec<u32>) -> Self {
-        let charstrings: Vec<&[u8]> = glyphs.iter().map(|glyph| glyph.charstring).collect();
-        let Glyph { globals, locals, .. } = glyphs[0];
-        let (charstrings, numbers) = (list(&charstrings), numbers(glyphs.len() as u32));
+    /// `glyphs` has each with its number in the font.
+    fn new(name: String, font: &'a Font, glyphs: &[(u32, Glyph<'a>)], sides: &Sides) -> Self {
+        let (_, Glyph { globals, locals, .. }) = glyphs[0];
+        let (charstrings, numbers) = if sides.apart {
+            let apart: Vec<&[u8]> = glyphs.iter().map(|(_, glyph)| glyph.charstring).collect();
+            (Cow::Owned(list(&apart)), (sides.numbers)(glyphs.len() as u32))
+        } else {
+            let theirs =
+                |number: &u32| glyphs.binary_search_by_key(number, |glyph| glyph.0).is_ok();
+            let chosen = (sides.numbers)(font.glyphs().count() as u32).into_iter();
+            (Cow::Borrowed(font.charstrings()), chosen.filter(theirs).collect())
+        };
         let (index, flat, tokens, times) = (Vec::new(), 0, 0, [f64::MAX; 3]);
         Whole { name, charstrings, globals, locals, numbers, index, flat, tokens, times }
     }
@@ -58,8 +70,8 @@ impl<'a> Whole<'a> {
 
 /// Each font with its times. All sides have to make the same INDEX; what all refuse is not timed, and counted.
 pub fn timed<'a>(found: &'a [Font], sides: &Sides) -> Result<(Vec<Whole<'a>>, usize), String> {
-    let mut wholes: Vec<Whole> =
-        found.iter().flat_map(|font| wholes_of(font, sides.numbers)).collect();
+    let mut wholes: Vec<Whole> = found.iter().flat_map(|font| wholes_of(font, sides)).collect();
+    wholes.retain(|whole| !whole.numbers.is_empty());
     let all = wholes.len();
     for whole in &mut wholes {
         compare(whole, sides)?;
@@ -72,18 +84,18 @@ pub fn timed<'a>(found: &'a [Font], sides: &Sides) -> Result<(Vec<Whole<'a>>, us
     Ok((wholes, refused))
 }
 
-fn wholes_of(font: &Font, numbers: fn(u32) -> Vec<u32>) -> Vec<Whole<'_>> {
-    let mut groups: Vec<Vec<Glyph>> = Vec::new();
-    for glyph in font.glyphs() {
+fn wholes_of<'a>(font: &'a Font, sides: &Sides) -> Vec<Whole<'a>> {
+    let mut groups: Vec<Vec<(u32, Glyph)>> = Vec::new();
+    for (number, glyph) in (0..).zip(font.glyphs()) {
         let whose = glyph.locals.as_ptr();
-        match groups.iter_mut().find(|group| group[0].locals.as_ptr() == whose) {
-            Some(group) => group.push(glyph),
-            None => groups.push(vec![glyph]),
+        match groups.iter_mut().find(|group| group[0].1.locals.as_ptr() == whose) {
+            Some(group) => group.push((number, glyph)),
+            None => groups.push(vec![(number, glyph)]),
         }
     }
     let several = groups.len() > 1;
     let name = |i| if several { format!("{} list {i}", font.name) } else { font.name.clone() };
-    groups.iter().enumerate().map(|(i, glyphs)| Whole::new(name(i), glyphs, numbers)).collect()
+    groups.iter().enumerate().map(|(i, group)| Whole::new(name(i), font, group, sides)).collect()
 }
 
 /// That all sides make the same INDEX, which is kept; none where all refuse.

@@ -48,6 +48,11 @@ impl Font {
         })
     }
 
+    /// The CharStrings INDEX.
+    pub fn charstrings(&self) -> &[u8] {
+        &self.table[self.charstrings.clone()]
+    }
+
     /// The INDEX of one glyph in so many, and their lists; one for each local list, where glyphs go by several. All glyphs of one
     /// list stand as the font has them.
     pub fn whole(&self, step: usize) -> Vec<[Cow<'_, [u8]>; 3]> {
@@ -58,7 +63,7 @@ impl Font {
             let some: Vec<&[u8]> = some.map(|glyph| &self.table[glyph.0.clone()]).collect();
             match some.len() {
                 all if all == self.glyphs.len() => {
-                    Cow::Borrowed(&self.table[self.charstrings.clone()])
+                    Cow::Borrowed(self.charstrings())
                 }
                 _ => Cow::Owned(list(&some)),
             }
