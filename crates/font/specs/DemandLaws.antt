@@ -58,8 +58,9 @@ pub record Font (rules : Rules) (choice : ℕ → Choice) (charstrings globals l
   pub formed : formation (rules .width) charstrings ≡ accepted glyphs
   pub few : choice glyphs .many < 2 ^ (8 * rules .width)
   pub strings : List (List ℕ)
-  pub all : allFrom (λ k. within glyphs (λ i. flatIn rules (original rules (part (rules .width) charstrings i) globals locals budget)) (choice glyphs .number k))
-      0 (choice glyphs .many) ≡ accepted strings
+  pub all : allFrom
+      (λ k. within glyphs (λ i. flatIn rules (original rules (part (rules .width) charstrings i) globals locals budget)) (choice glyphs .number k)) 0
+      (choice glyphs .many) ≡ accepted strings
   pub index : indexOf (rules .width) (lengthsOf strings) (joinedOf strings) ≡ accepted b
 
 indexed-accepted : (w : ℕ) (x : Answer (List (List ℕ))) (b : List ℕ) → indexed w x ≡ accepted b

@@ -62,10 +62,14 @@ none = 0x00 ∷ 0x00 ∷ []
 abbrev L : List ℕ
 L = 0x00 ∷ 0x01 ∷ 0x01 ∷ 0x01 ∷ 0x05 ∷ 0x8C ∷ 0x8D ∷ 0x15 ∷ 0x0B ∷ []
 
+-- all glyphs, without a global list
+abbrev all : List ℕ → List ℕ → Rules → ℕ → ℕ → Expected → Row
+all charstrings locals rules budget room e =
+    record { choice = every; charstrings = charstrings; globals = none; locals = locals; rules = rules; budget = budget; room = room; expected = e }
+
 -- ample room
 abbrev row : List ℕ → List ℕ → ℕ → Expected → Row
-row charstrings locals budget e =
-    record { choice = every; charstrings = charstrings; globals = none; locals = locals; rules = plain; budget = budget; room = 12; expected = e }
+row charstrings locals budget e = all charstrings locals plain budget 12 e
 
 -- an endchar
 abbrev one : List ℕ
@@ -117,28 +121,28 @@ rows =
     ∷ row three none 1000 (refuses 6 (atGlyph 1 (atToken 1)))
     ∷ row threeBad none 1000 (refuses 6 (atGlyph 1 (atToken 1)))
     -- each glyph has the whole budget
-    ∷ record { choice = every; charstrings = short; globals = none; locals = none; rules = plain; budget = 2; room = 13; expected = gives short }
-    ∷ record { choice = every; charstrings = short; globals = none; locals = none; rules = plain; budget = 1; room = 13; expected = refuses 3 (atGlyph 0 (atToken 1)) }
+    ∷ all short none plain 2 13 (gives short)
+    ∷ all short none plain 1 13 (refuses 3 (atGlyph 0 (atToken 1)))
     -- room for all of it but a byte
-    ∷ record { choice = every; charstrings = two; globals = none; locals = L; rules = plain; budget = 1000; room = 9; expected = refuses 13 (needing 10) }
-    ∷ record { choice = every; charstrings = two; globals = none; locals = L; rules = plain; budget = 1000; room = 10; expected = gives flatTwo }
+    ∷ all two L plain 1000 9 (refuses 13 (needing 10))
+    ∷ all two L plain 1000 10 (gives flatTwo)
     -- 1 before 2, 2 before 26, 26 before a glyph's own; each with its reason
     ∷ withLists descending [] descending (refuses 1 (because 20 alone))
     ∷ withLists descending none (0x00 ∷ 0x01 ∷ 0x05 ∷ []) (refuses 2 (because 21 alone))
     ∷ withLists descending none none (refuses 26 (because 41 (atEntry 1)))
     ∷ withLists [] none none (refuses 26 (because 20 alone))
     -- a glyph's own before 13
-    ∷ record { choice = every; charstrings = three; globals = none; locals = none; rules = plain; budget = 1000; room = 0; expected = refuses 6 (atGlyph 1 (atToken 1)) }
+    ∷ all three none plain 1000 0 (refuses 6 (atGlyph 1 (atToken 1)))
     ∷ []
 
 abbrev pub rowsInStrict : List Row
 rowsInStrict =
     -- 15 of a glyph comes with its number alone, in strict
-    record { choice = every; charstrings = waiting; globals = none; locals = none; rules = strict; budget = 1000; room = 24; expected = refuses 15 (atGlyph 1 alone) }
-    ∷ record { choice = every; charstrings = waiting; globals = none; locals = none; rules = plain; budget = 1000; room = 24; expected = gives waiting }
+    all waiting none strict 1000 24 (refuses 15 (atGlyph 1 alone))
+    ∷ all waiting none plain 1000 24 (gives waiting)
     -- and so does 16, also before 13
-    ∷ record { choice = every; charstrings = two; globals = none; locals = L; rules = strict; budget = 1000; room = 0; expected = refuses 16 (atGlyph 1 alone) }
-    ∷ record { choice = every; charstrings = short; globals = none; locals = none; rules = strict; budget = 1000; room = 13; expected = gives short }
+    ∷ all two L strict 1000 0 (refuses 16 (atGlyph 1 alone))
+    ∷ all short none strict 1000 13 (gives short)
     ∷ []
 
 -- of two glyphs, of which the first calls the entry of L and the second is an endchar, those that are numbered

@@ -99,7 +99,8 @@ module _ (rules : Rules) (choice : ℕ → Choice) (charstrings globals locals :
         before-it : (j : ℕ) → j < i → (f : List ℕ) × Given rules choice charstrings globals locals budget n j f
         before-it j b = let x = before j (omega arith) b in (x .0, given j (x .0) (x .1))
 
-        go : (y : Answer (List ℕ)) → Within n glyph (number i) y → y ≡ refused k u → Why rules choice charstrings globals locals budget out k (atGlyph i u)
+        go : (y : Answer (List ℕ)) → Within n glyph (number i) y → y ≡ refused k u
+            → Why rules choice charstrings globals locals budget out k (atGlyph i u)
         go y (is-past p) e =
             let same : k ≡ 25 = cc in
             let none : u ≡ alone = cc in
@@ -240,7 +241,8 @@ whole-font rules charstrings globals locals budget out k v bytes e =
 
 -- by clean rules never 8, for no glyph alone has it
 why-not-eight : (rules : Rules) (choice : ℕ → Choice) (charstrings globals locals : List ℕ) (budget : ℕ) (out : List ℕ) (k : ℕ) (v : Values)
-    → Bytes charstrings → Bytes globals → Bytes locals → rules .clean ≡ true → Why rules choice charstrings globals locals budget out k v → k ≡ 8 → ⊥
+    → Bytes charstrings → Bytes globals → Bytes locals → rules .clean ≡ true
+    → Why rules choice charstrings globals locals budget out k v → k ≡ 8 → ⊥
 why-not-eight rules choice charstrings globals locals budget out k₁ v₁ bytes gs ls clean (bad-globals k v g) e = omega arith
 why-not-eight rules choice charstrings globals locals budget out k₁ v₁ bytes gs ls clean (bad-locals k v g l) e = omega arith
 why-not-eight rules choice charstrings globals locals budget out k₁ v₁ bytes gs ls clean (bad-charstrings k v g l c) e = omega arith

@@ -124,11 +124,12 @@ fontAt n i t k j = record { length = n; glyph = i; tokens = t; entry = k; reason
 
 -- Calls of both with the same arguments, of which the one of `ighzamrel_flatten_glyphs` has all numbers in order.
 module _ (κs : Lfts 7) (a : Dens κs kinds.ps) (r : resT kinds.r κs .Denot) (x : AtExit (endedOf 7 kinds.ps kinds.r) κs) (of-font : reads.Post κs a r x)
-    (κs′ : Lfts 8) (a′ : Dens κs′ glyphs-kinds.ps) (r′ : resT glyphs-kinds.r κs′ .Denot) (x′ : AtExit (endedOf 8 glyphs-kinds.ps glyphs-kinds.r) κs′)
-    (of-glyphs : glyphs-reads.Post κs′ a′ r′ x′)
+    (κs′ : Lfts 8) (a′ : Dens κs′ glyphs-kinds.ps) (r′ : resT glyphs-kinds.r κs′ .Denot)
+    (x′ : AtExit (endedOf 8 glyphs-kinds.ps glyphs-kinds.r) κs′) (of-glyphs : glyphs-reads.Post κs′ a′ r′ x′)
     (in-order : (n : ℕ) → formation (rulesOf (profileOf (a .1 .1 .1 .0)) .width) (a .0 .now) ≡ accepted n
     → (length (a′ .1 .0 .now) ≡ n) × ((k : ℕ) → k < n → getD (a′ .1 .0 .now) k 0 ≡ k))
-    (same-charstrings : a′ .0 .now ≡ a .0 .now) (same-globals : a′ .1 .1 .0 .now ≡ a .1 .0 .now) (same-locals : a′ .1 .1 .1 .0 .now ≡ a .1 .1 .0 .now)
+    (same-charstrings : a′ .0 .now ≡ a .0 .now) (same-globals : a′ .1 .1 .0 .now ≡ a .1 .0 .now)
+    (same-locals : a′ .1 .1 .1 .0 .now ≡ a .1 .1 .0 .now)
     (same-profile : a′ .1 .1 .1 .1 .0 ≡ a .1 .1 .1 .0) (same-budget : a′ .1 .1 .1 .1 .1 .0 ≡ a .1 .1 .1 .1 .0)
     (same-room : a′ .1 .1 .1 .1 .1 .1 .0 .now ≡ a .1 .1 .1 .1 .1 .0 .now)
     (same-places : fontAt (a′ .1 .1 .1 .1 .1 .1 .1 .0 .now) (a′ .1 .1 .1 .1 .1 .1 .1 .1 .0 .now) (a′ .1 .1 .1 .1 .1 .1 .1 .1 .1 .0 .now)

@@ -49,8 +49,8 @@ module _ (c : tie.Start) where
   unfolding fontBy
   by-font x e =
       ap (λ (y : Answer (List ℕ)). into (c .args .out .now) (mapped sized y)) e
-      ∙ font-two (c .args .profile) (choiceOf (c .args .all) (c .args .numbers .now)) (c .args .charstrings .now) (c .args .globals .now) (c .args .locals .now) (c .args .budget)
-      (c .args .out .now)
+      ∙ font-two (c .args .profile) (choiceOf (c .args .all) (c .args .numbers .now)) (c .args .charstrings .now) (c .args .globals .now)
+      (c .args .locals .now) (c .args .budget) (c .args .out .now)
 
   refused-font : (k : ℕ) (v : Values) → refused k v ≡ ifFormed 1 (formation 2 (c .args .globals .now)) (λ _. second)
       → leaving (refused k v) (c .args .out .now)

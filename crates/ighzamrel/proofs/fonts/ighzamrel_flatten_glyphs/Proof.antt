@@ -16,7 +16,8 @@ start c = c .before .before .before .before .before .before .before .before
 
 abbrev asks : tie.After-flatten-glyphs → Profile → Outcome (Answer ℕ)
 asks c p =
-    let a = start c .args in flattenGlyphs (rulesOf p) (these (a .numbers .now)) (a .charstrings .now) (a .globals .now) (a .locals .now) (a .budget) (a .out .now)
+    let a = start c .args in
+    flattenGlyphs (rulesOf p) (these (a .numbers .now)) (a .charstrings .now) (a .globals .now) (a .locals .now) (a .budget) (a .out .now)
 
 -- by the profile that C's number stands for
 asked : (c : tie.After-flatten-glyphs)
