@@ -11,7 +11,7 @@ mod lists;
 mod ours;
 mod timing;
 
-use folders::fonts_asked_for;
+use folders::report;
 use lists::Lists;
 use oracle::fonts::{Font, Glyph};
 use ours::{ours, ours_with_rows};
@@ -40,14 +40,12 @@ charstring with the same lists, and is told apart. By hand: the same loop in C w
 ";
 
 fn main() -> ExitCode {
-    println!("{INTRODUCTION}");
-    if let Err(why) = fonts_asked_for().and_then(of_fonts) {
-        eprintln!("{why}");
-        return ExitCode::FAILURE;
-    }
-    println!();
-    hostile::print();
-    ExitCode::SUCCESS
+    report(INTRODUCTION, |found| {
+        of_fonts(found)?;
+        println!();
+        hostile::print();
+        Ok(())
+    })
 }
 
 /// Nanoseconds for all timed glyphs.

@@ -2,9 +2,25 @@
 
 use oracle::fonts::{self, Font};
 use std::path::PathBuf;
+use std::process::ExitCode;
+
+/// Prints an introduction, and then what is to be said of the fonts.
+pub fn report(
+    introduction: &str,
+    of_fonts: impl FnOnce(Vec<Font>) -> Result<(), String>,
+) -> ExitCode {
+    println!("{introduction}");
+    match fonts_asked_for().and_then(of_fonts) {
+        Ok(()) => ExitCode::SUCCESS,
+        Err(why) => {
+            eprintln!("{why}");
+            ExitCode::FAILURE
+        }
+    }
+}
 
 /// The CFF fonts in the folders that the words name, else in Debian's.
-pub fn fonts_asked_for() -> Result<Vec<Font>, String> {
+fn fonts_asked_for() -> Result<Vec<Font>, String> {
     let folders: Vec<PathBuf> = std::env::args_os().skip(1).map(PathBuf::from).collect();
     let mut found = Vec::new();
     for path in fonts::files(&folders) {
