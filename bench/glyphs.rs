@@ -61,10 +61,13 @@ fn of_fonts(found: &[Font]) -> Result<(), String> {
 /// The calls of each font as one: what they make and take together. They are lent the same global list.
 fn by_font(wholes: Vec<Whole<'_>>) -> Vec<Whole<'_>> {
     let mut fonts: Vec<Whole> = Vec::new();
-    for whole in wholes {
+    for mut whole in wholes {
         match fonts.last_mut().filter(|font| std::ptr::eq(font.globals, whole.globals)) {
             Some(font) => add(font, whole),
-            None => fonts.push(whole),
+            None => {
+                whole.name = whole.name.split(" list ").next().unwrap_or_default().to_owned();
+                fonts.push(whole);
+            }
         }
     }
     fonts
