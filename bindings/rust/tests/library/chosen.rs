@@ -1,7 +1,8 @@
 //! Glyphs of a font that are asked for by their numbers: in any order, repeated, past the count, refused and left out.
 
 use crate::flattening::{Bytes, ACCEPTED, AMPLE, AT_MASK, L, REFUSED, UNFINISHED};
-use crate::{alone, ffi, index, lent, refuses, short, writes, BAD_LISTS, BLANK};
+use crate::whole::each_has_its_list;
+use crate::{alone, ffi, held, index, lent, refuses, short, writes, BAD_LISTS, BLANK};
 use ighzamrel::Profile::{Plain, Strict};
 use ighzamrel::*;
 
@@ -209,14 +210,7 @@ fn as_many_numbers_as_an_index_counts() {
 /// The answer, then length, glyph, tokens, entry and reason, whose places held 77. Behind the six glyphs stands one that strict
 /// refuses for what waits at its second mask.
 fn places(numbers: &[u32], [profile, budget]: [u32; 2], room: usize) -> (u32, [usize; 5]) {
-    let mut places = ffi::Places {
-        length: 77,
-        glyph: 77,
-        tokens: 77,
-        entry: 77,
-        reason: 77,
-        ..Default::default()
-    };
+    let mut places = held();
     let glyphs = index(&[&GLYPHS[..], &[AT_MASK[0].0]].concat());
     let lent = [&glyphs[..], EMPTY_INDEX, L];
     let out = &mut vec![0; room];
@@ -270,12 +264,7 @@ fn global_and_local_lists_are_not_swapped() {
         let glyphs = index(&[&[0x20, call]]);
         flatten_glyphs_to_vec(&glyphs, &[0], globals, locals, Plain, AMPLE, ROOM)
     };
-    let flat = index(&[&[0x8C, 0x8D, 0x15]]);
-    assert_eq!(called(0x1D, [L, EMPTY_INDEX]).as_ref(), Ok(&flat));
-    assert_eq!(called(0x0A, [EMPTY_INDEX, L]).as_ref(), Ok(&flat));
-    let missing = Err(at(0, Refusal::NoEntry, Some(2)));
-    assert_eq!(called(0x0A, [L, EMPTY_INDEX]), missing);
-    assert_eq!(called(0x1D, [EMPTY_INDEX, L]), missing);
+    each_has_its_list(called, at(0, Refusal::NoEntry, Some(2)));
 }
 
 /// A flat string of many times the bytes that lead to it: the first room lacks.

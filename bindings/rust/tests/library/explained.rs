@@ -1,7 +1,7 @@
 //! Why a charstring is refused: the verdict, which is flattening's, and the calls that were open.
 
 use crate::flattening::{Bytes, ACCEPTED, AMPLE, AT_MASK, L, REFUSED, UNFINISHED};
-use crate::{alone, ffi, index, BAD_LISTS};
+use crate::{alone, ffi, held, index, BAD_LISTS};
 use ighzamrel::List::{Global, Local};
 use ighzamrel::Profile::{Plain, Strict};
 use ighzamrel::*;
@@ -186,16 +186,7 @@ fn lent(
     [profile, budget]: [u32; 2],
     count: usize,
 ) -> (u32, ffi::Places, Vec<u64>) {
-    let mut places = ffi::Places {
-        length: 77,
-        glyph: 77,
-        tokens: 77,
-        entry: 77,
-        reason: 77,
-        width_kind: 77,
-        width: 77,
-        calls: 77,
-    };
+    let mut places = held();
     let mut words = vec![77; count];
     let lists = [charstring, globals, locals];
     let answer = ffi::explain_to(lists, profile, budget, &mut words, &mut places);

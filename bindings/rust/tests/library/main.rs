@@ -24,6 +24,20 @@ mod ffi;
 /// What lent bytes hold before a call.
 const BLANK: u8 = 0xA5;
 
+/// Places that hold 77 each, so that one which a call sets shows.
+fn held() -> ffi::Places {
+    ffi::Places {
+        length: 77,
+        glyph: 77,
+        tokens: 77,
+        entry: 77,
+        reason: 77,
+        width_kind: 77,
+        width: 77,
+        calls: 77,
+    }
+}
+
 /// A refusal that gives no value.
 fn alone(refusal: Refusal) -> Refused {
     Refused {

@@ -1,7 +1,7 @@
 //! Flattening with rows: which entries of its lists a run entered, and what is left of rows that are lent.
 
 use crate::flattening::{AMPLE, L};
-use crate::{alone, ffi, index, BAD_LISTS, BLANK};
+use crate::{alone, ffi, held, index, BAD_LISTS, BLANK};
 use ighzamrel::Profile::{Plain, Strict};
 use ighzamrel::*;
 
@@ -293,16 +293,7 @@ fn a_damaged_list_comes_before_a_short_row() {
 fn a_short_row_gives_no_place() {
     let lists = [L, L];
     for lengths in [[0, 1], [1, 0], [0, 0]] {
-        let mut places = ffi::Places {
-            length: 77,
-            glyph: 77,
-            tokens: 77,
-            entry: 77,
-            reason: 77,
-            width_kind: 77,
-            width: 77,
-            calls: 77,
-        };
+        let mut places = held();
         let [mut first, mut second] = lengths.map(|length| vec![BLANK; length]);
         let lent = [&[0x20, 0x0A, 0x0E], lists[0], lists[1]];
         let rows = [&mut first[..], &mut second[..]];

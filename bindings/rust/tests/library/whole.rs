@@ -139,12 +139,20 @@ fn global_and_local_lists_are_not_swapped() {
             ROOM,
         )
     };
+    each_has_its_list(called, at(0, Refusal::NoEntry, 2));
+}
+
+/// A font of one glyph, a call by this operator of entry 0, is flattened with L for the list that it goes by, and refused so
+/// with L for the other.
+pub fn each_has_its_list(
+    called: impl Fn(u8, [&[u8]; 2]) -> Result<Vec<u8>, Refused>,
+    missing: Refused,
+) {
     let flat = index(&[&[0x8C, 0x8D, 0x15]]);
     assert_eq!(called(0x1D, [L, EMPTY_INDEX]).as_ref(), Ok(&flat));
     assert_eq!(called(0x0A, [EMPTY_INDEX, L]).as_ref(), Ok(&flat));
-    let missing = Err(at(0, Refusal::NoEntry, 2));
-    assert_eq!(called(0x0A, [L, EMPTY_INDEX]), missing);
-    assert_eq!(called(0x1D, [EMPTY_INDEX, L]), missing);
+    assert_eq!(called(0x0A, [L, EMPTY_INDEX]).as_ref(), Err(&missing));
+    assert_eq!(called(0x1D, [EMPTY_INDEX, L]).as_ref(), Err(&missing));
 }
 
 /// A flat string of many times the bytes that lead to it: the first room lacks.
