@@ -1,10 +1,10 @@
 -- Numbers written (RULES, "Numbers"): in the first row of the table that has the operand, and so in the shortest form (`shortest` of RoundTripLaws.antt).
-use Rattle.std.specs.Prelude.{ℕ, ◌+◌, ◌-◌, ◌*◌, ◌/◌, ◌%◌, ◌^◌, Bool, true, false, cond, not, ◌&&◌, List, [], ◌∷◌, ℤ, pos, nat_abs, ◌+ℤ◌}
+use Rattle.std.specs.Prelude.{ℕ, ◌≡◌, ◌+◌, ◌-◌, ◌*◌, ◌/◌, ◌%◌, ◌^◌, Bool, true, false, cond, not, ◌&&◌, List, [], ◌∷◌, ℤ, pos, nat_abs, ◌+ℤ◌}
 use Rattle.std.specs.Int.Signed.{le_z}
 use Rattle.number.specs.Answer.{Answer, accepted, refused, alone, needing, mapped, Outcome, sized, into}
 use Rattle.number.specs.BigEndian.{bytes_of}
 use Rattle.number.specs.Signed.{unsigned}
-use Rattle.number.specs.Number.{Value, near, above, below, twos, Row}
+use Rattle.number.specs.Number.{Value, near, above, below, twos, Row, rows_of}
 use Rattle.number.specs.declared.Operand.{Operand}
 use Rattle.number.specs.declared.write.Form.{Form}
 use Rattle.number.specs.declared.write.Coded.{Coded}
@@ -56,6 +56,11 @@ bytes_by (refused n v) = []
 -- the bytes that a table gives an operand
 unfoldable pub spelling : List Row → Operand → List ℕ
 spelling rows o = bytes_by (spell rows o)
+
+-- a row of the table has the operand
+pub record Spellable (dict : Bool) (o : Operand) : Type 0 where
+  pub form : Form
+  pub is : accepted form ≡ spell (rows_of dict) o
 
 -- what writing an operand answers and leaves
 unfoldable pub write : List Row → Operand → List ℕ → Outcome (Answer ℕ)

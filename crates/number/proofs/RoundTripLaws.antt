@@ -11,14 +11,15 @@ use Rattle.std.proofs.Math.IntN.{sub_ℕ}
 use Rattle.std.specs.Int.Signed.{mag, le_z}
 use Rattle.number.specs.Answer.{Answer, accepted, refused, alone}
 use Rattle.number.specs.BigEndian.{be_at, bytes_of}
-use Rattle.number.specs.BigEndianLaws.{be_lt, be_bytes, length_bytes, both}
+use Rattle.number.proofs.BigEndianLaws.{be_lt, be_bytes, length_bytes, both}
 use Rattle.number.specs.Signed.{signed}
-use Rattle.number.specs.SignedLaws.{signed_unsigned, unsigned_lt, mag_signed}
+use Rattle.number.proofs.SignedLaws.{signed_unsigned, unsigned_lt, mag_signed}
 use Rattle.number.specs.Number.{near, above, below, twos, Row, row32, row247, row251, row28, row29, row255, integer_rows, last_row, rows_of}
 use Rattle.number.specs.Number.{charstring_rows, Found, row, no_row, on, row_of, pair_of, value_by, operand_by, Number, number_by, read_by}
-use Rattle.number.specs.NumberLaws.{Every, every_found, row_range, at_near, at_above, at_below, at_short, at_last, read_some}
-use Rattle.number.specs.Written.{same, has, form, form_by, spell, bytes, bytes_by, spelling}
-use Rattle.number.specs.WrittenLaws.{less_139, after_form, spell_here, spell_past, spelled, length_form, after_le}
+use Rattle.number.proofs.NumberLaws.{Every, every_found, row_range, at_near, at_above, at_below, at_short, at_last, read_some}
+use Rattle.number.specs.Written.{same, has, form_by, spell, bytes, bytes_by, spelling}
+use Rattle.number.specs.Written.{Spellable}
+use Rattle.number.proofs.WrittenLaws.{less_139, after_form, spell_here, spell_past, spelled, length_form, after_le}
 use Rattle.number.specs.declared.Operand.{Operand}
 use Rattle.number.specs.declared.write.Form.{Form}
 
@@ -358,11 +359,6 @@ read_16 s bytes_of_s x e f =
     omega arith
 
 -- ---- the same of an operand's bytes, without naming its form
-
--- a row of the table has the operand
-pub record Spellable (dict : Bool) (o : Operand) : Type 0 where
-  pub form : Form
-  pub is : accepted form ≡ spell (rows_of dict) o
 
 module _ (dict : Bool) (o : Operand) (p : Spellable dict o) where
   spelling_is : spelling (rows_of dict) o ≡ bytes p.form
