@@ -4,7 +4,7 @@ use Rattle.number.specs.Answer.{accepted, refused, alone, at_entry}
 use Rattle.number.specs.BigEndian.{be_at}
 use Rattle.index.specs.Index.{offset, by_last, by_size, by_count, extent, place_by, place_in, place, bytes_by, part}
 use Rattle.index.specs.Formed.{unless, entries_from, formed_by, formation}
-use Rattle.index.specs.IndexLaws.{has, lies}
+use Rattle.index.specs.Index.{has, lies}
 
 -- the elements `0E` and empty
 abbrev pub two : List ℕ

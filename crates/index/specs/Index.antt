@@ -58,6 +58,10 @@ by_count w s n =
 unfoldable pub extent : ℕ → List ℕ → Answer Extent
 extent w s = cond (ltb (length s) w) (refused 20 alone) (by_count w s (be_at s 0 w))
 
+-- an accepted read
+abbrev pub has : ℕ → ℕ → Answer Extent
+has n t = accepted (record { entries = n; taken = t })
+
 -- ---- an entry
 
 -- where an entry starts, counted from the INDEX's first byte, and how long it is
@@ -87,6 +91,13 @@ place_in w s i (refused k v) = refused k v
 -- entry i of the INDEX at the start of s
 unfoldable pub place : ℕ → List ℕ → ℕ → Answer Place
 place w s i = place_in w s i (extent w s)
+
+-- an accepted entry, and one that is refused
+abbrev pub lies : ℕ → ℕ → Answer Place
+lies a m = accepted (record { start = a; size = m })
+
+abbrev pub absent_for : ℕ → Answer Place
+absent_for k = refused k alone
 
 -- Entry i where the count n and the offset size z are known, and s is the INDEX's own bytes: its data end with them. It is 25 too where z is not
 -- 1 to 4, or offsets are lacking.

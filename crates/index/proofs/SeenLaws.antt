@@ -12,9 +12,10 @@ use borrow.Author.Tests.{lt-ltb, le-ltb, le-leb, lt-leb, eq-eqb, ne_eqb, ltb-tru
 use Rattle.number.specs.Answer.{Answer, accepted, refused, alone}
 use Rattle.index.specs.Index.{Extent, Place, data_start, offset, extent, place_by, place, place_seen, part_by, part_at, part_seen, bytes_by, start_by}
 use Rattle.index.specs.Code.{offset_of, reach, Full, Inside}
-use Rattle.index.specs.IndexLaws.{has, entries_full, taken_le, past_count, to_place_by, between_inside, part_none, or_true, past}
-use Rattle.index.specs.OffsetLaws.{start_mono}
-use Rattle.index.specs.AfterLaws.{offset_after, bytes_after}
+use Rattle.index.specs.Index.{has}
+use Rattle.index.proofs.IndexLaws.{entries_full, taken_le, past_count, to_place_by, between_inside, part_none, or_true, past}
+use Rattle.index.proofs.OffsetLaws.{start_mono}
+use Rattle.index.proofs.AfterLaws.{offset_after, bytes_after}
 
 -- ---- what it answers
 

@@ -10,10 +10,11 @@ use Rattle.number.specs.Answer.{Answer, accepted, refused, alone}
 use Rattle.number.specs.BigEndian.{be_at}
 use Rattle.index.specs.Index.{Place, data_start, offset, extent, place_in, place, bytes_by, part}
 use Rattle.index.specs.Formed.{entries_from, formed_by, formation}
-use Rattle.index.specs.OffsetLaws.{start_is, start_mono}
+use Rattle.index.proofs.OffsetLaws.{start_is, start_mono}
 use Rattle.index.specs.Code.{offset_of, Headed, reach, Full, Inside}
-use Rattle.index.specs.IndexLaws.{has, Shape, none, emptied, full, shape, entries_full, size_there, count_zero, last_zero, full_read}
-use Rattle.index.specs.IndexLaws.{past_count, count_there, place_inside}
+use Rattle.index.specs.Index.{has}
+use Rattle.index.proofs.IndexLaws.{Shape, none, emptied, full, shape, entries_full, size_there, count_zero, last_zero, full_read}
+use Rattle.index.proofs.IndexLaws.{past_count, count_there, place_inside}
 
 module _ (s r : List ℕ) where
   be_after : (at k : ℕ) → at + k ≤ length s → be_at (s ++ r) at k ≡ be_at s at k

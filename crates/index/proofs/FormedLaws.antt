@@ -9,11 +9,12 @@ use native.Mathlib.Omega.{arith}
 use Rattle.std.proofs.Math.Dec.{eqb}
 use borrow.Author.Tests.{ltb-true, ltb-false, eqb-true}
 use Rattle.number.specs.Answer.{Values, Answer, accepted, refused, alone, at_entry}
-use Rattle.number.specs.AnswerLaws.{refused_accepted, accepted_same}
+use Rattle.number.proofs.AnswerLaws.{refused_accepted, accepted_same}
 use Rattle.number.specs.BigEndian.{be_at}
 use Rattle.index.specs.Index.{Extent, Place, extent, place_of, place_in, place}
 use Rattle.index.specs.Code.{Full, offset_of, Rising, Passed}
-use Rattle.index.specs.IndexLaws.{has, Shape, none, emptied, full, shape, not_past, emptied_place, full_read, present}
+use Rattle.index.specs.Index.{has}
+use Rattle.index.proofs.IndexLaws.{Shape, none, emptied, full, shape, not_past, emptied_place, full_read, present}
 use Rattle.index.specs.Formed.{unless, entries_from, formed_by, formation}
 
 -- ---- the entries from i on, up to n

@@ -11,19 +11,9 @@ use Rattle.number.specs.Answer.{Values, Answer, accepted, refused, alone}
 use Rattle.number.specs.BigEndian.{be_at}
 use Rattle.index.specs.Index.{Extent, data_start, offset, by_last, by_size, by_count, extent}
 use Rattle.index.specs.Index.{Place, place_by, place_in, place, bytes_by, part, start_by, part_by}
+use Rattle.index.specs.Index.{has, lies, absent_for}
 use Rattle.index.specs.Code.{offset_of, data_of, Headed, reach, Full, Inside}
-use Rattle.index.specs.OffsetLaws.{start_is}
-
--- an accepted read, and an accepted entry
-abbrev pub has : ℕ → ℕ → Answer Extent
-has n t = accepted (record { entries = n; taken = t })
-
-abbrev pub lies : ℕ → ℕ → Answer Place
-lies a m = accepted (record { start = a; size = m })
-
--- an entry that is refused
-abbrev pub absent_for : ℕ → Answer Place
-absent_for k = refused k alone
+use Rattle.index.proofs.OffsetLaws.{start_is}
 
 -- ---- tests
 
