@@ -7,9 +7,10 @@ use Rattle.std.proofs.Math.ListN.{get_or, take, get_or-eq_default}
 use Rattle.number.specs.Answer.{Answer, accepted, refused, alone}
 use Rattle.index_view.specs.declared.Head.{Head}
 use Rattle.index.specs.Index.{Extent, extent, place, place_in, part_by, part_at}
-use Rattle.index.specs.IndexLaws.{has, entries_full, part_none}
-use Rattle.index.specs.OffsetLaws.{start_is}
-use Rattle.index.specs.SeenLaws.{seen_past, part_seen_lem}
+use Rattle.index.specs.Index.{has}
+use Rattle.index.proofs.IndexLaws.{entries_full, part_none}
+use Rattle.index.proofs.OffsetLaws.{start_is}
+use Rattle.index.proofs.SeenLaws.{seen_past, part_seen_lem}
 use Rattle.index_view.specs.Code.{head_by, head_of}
 use Rattle.index_view.specs.View.{view_by, view_of, view_part}
 
