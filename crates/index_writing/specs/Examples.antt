@@ -2,7 +2,7 @@
 use Rattle.std.specs.Prelude.{◌≡◌, refl, List, [], ◌∷◌, ℕ}
 use Rattle.number.specs.Answer.{accepted, refused, alone, needing, into}
 use Rattle.number.specs.BigEndian.{bytes_of}
-use Rattle.index_writing.specs.WritingLaws.{wrote}
+use Rattle.index_writing.specs.Writing.{wrote}
 use Rattle.index_writing.specs.Writing.{total, element, size_for, offsets, behind_count, index_bytes, index_of, write_index}
 
 -- room for eight bytes, and for two

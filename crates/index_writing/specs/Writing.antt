@@ -1,7 +1,7 @@
 -- An INDEX written (TN5176, section 5; RULES, "INDEX"), from its elements' lengths and their joined data. The count has w bytes: 2 in CFF.
 -- The last offset is one more than the sum of the lengths: the rules' S.
 use Rattle.std.specs.Prelude.{ℕ, ◌+◌, ◌*◌, ◌^◌, cond, List, [], ◌∷◌, ◌++◌, length, get_or, take, drop, leb, ltb, eqb}
-use Rattle.number.specs.Answer.{Answer, accepted, refused, alone, needing, mapped, Outcome, sized, into}
+use Rattle.number.specs.Answer.{Answer, accepted, refused, alone, needing, mapped, Outcome, leaving, sized, into}
 use Rattle.number.specs.BigEndian.{bytes_of}
 use Rattle.index.specs.Index.{data_start}
 use Rattle.index_writing.specs.declared.IndexPlan.{IndexPlan}
@@ -52,6 +52,10 @@ index_of w lengths joined =
 -- what writing answers and leaves: the bytes come first and the rest stays, or 13 with the length that is needed
 unfoldable pub write_index : ℕ → List ℕ → List ℕ → List ℕ → Outcome (Answer ℕ)
 write_index w lengths joined out = into out (mapped sized (index_of w lengths joined))
+
+-- the outcome of an answer and what it leaves
+abbrev pub wrote : Answer ℕ → List ℕ → Outcome (Answer ℕ)
+wrote a l = leaving a l
 
 -- what the writer's enum says
 abbrev pub index_written : IndexWritten → Answer ℕ

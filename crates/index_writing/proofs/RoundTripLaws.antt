@@ -12,17 +12,19 @@ use Rattle.std.proofs.lemmas.List.{get_or_at}
 use borrow.Author.Tests.{leb-true, leb-false, ltb-false, eqb-true, eqb-false}
 use Rattle.number.specs.Answer.{Answer, accepted, refused, alone, needing, mapped, Outcome, sized, into}
 use Rattle.number.specs.BigEndian.{be_at, bytes_of}
-use Rattle.number.specs.BigEndianLaws.{length_bytes, be_bytes}
+use Rattle.number.proofs.BigEndianLaws.{length_bytes, be_bytes}
 use Rattle.index.specs.Index.{data_start, offset, extent, place, part}
 use Rattle.index.specs.Code.{Headed, reach, Full}
-use Rattle.index.specs.IndexLaws.{has, lies, not_refused, Held, full_read, held_place, part_is, count_zero}
-use Rattle.index.specs.OffsetLaws.{start_is}
+use Rattle.index.specs.Index.{has, lies}
+use Rattle.index.proofs.IndexLaws.{not_refused, Held, full_read, held_place, part_is, count_zero}
+use Rattle.index.proofs.OffsetLaws.{start_is}
 use Rattle.index.specs.Formed.{formation}
-use Rattle.index.specs.FormedLaws.{formed_yes}
-use Rattle.index.specs.AfterLaws.{read_after, part_after, formation_after}
+use Rattle.index.proofs.FormedLaws.{formed_yes}
+use Rattle.index.proofs.AfterLaws.{read_after, part_after, formation_after}
 use Rattle.index_writing.specs.Writing.{total, element, size_for, offsets, index_bytes, index_of, write_index}
 use Rattle.index_writing.specs.Code.{Writable}
-use Rattle.index_writing.specs.WritingLaws.{size_holds, length_offsets, reach_none, index_some, length_some, length_index, wrote}
+use Rattle.index_writing.specs.Writing.{wrote}
+use Rattle.index_writing.proofs.WritingLaws.{size_holds, length_offsets, reach_none, index_some, length_some, length_index}
 
 -- ---- the lengths before an element
 

@@ -6,16 +6,17 @@ use Rattle.std.proofs.Math.ListN.{length}
 use Rattle.std.proofs.Math.Seq.{drop-cons}
 use borrow.Author.Tests.{lt-ltb, le-ltb, le-leb, lt-leb, eq-eqb, ne_eqb, leb-true, ltb-true, ltb-false, eqb-true, eqb-false}
 use Rattle.number.specs.Answer.{Answer, accepted, refused, alone, needing, Outcome, leaving, sized, into}
-use Rattle.number.specs.AnswerLaws.{accepted_same}
+use Rattle.number.proofs.AnswerLaws.{accepted_same}
 use Rattle.number.specs.BigEndian.{bytes_of, put_at}
-use Rattle.number.specs.BigEndianLaws.{length_bytes}
+use Rattle.number.proofs.BigEndianLaws.{length_bytes}
 use Rattle.index.specs.Index.{data_start}
-use Rattle.index.specs.IndexLaws.{not_refused}
-use Rattle.index.specs.OffsetLaws.{start_is, start_mono}
+use Rattle.index.proofs.IndexLaws.{not_refused}
+use Rattle.index.proofs.OffsetLaws.{start_is, start_mono}
 use Rattle.index_writing.specs.Code.{laid, Writable}
-use Rattle.index_writing.specs.LaidLaws.{laid_append, laid_one, laid_put, laid_first, length_laid}
+use Rattle.index_writing.proofs.LaidLaws.{laid_append, laid_one, laid_put, laid_first, length_laid}
 use Rattle.index_writing.specs.Writing.{total, size_for, offsets, behind_count, index_bytes, index_of, write_index}
 use Rattle.index_writing.specs.Writing.{reach_of, Plan, plan_of}
+use Rattle.index_writing.specs.Writing.{wrote}
 
 -- ---- the sum of the lengths
 
@@ -229,9 +230,6 @@ module _ (w n d : ℕ) where
       go false q = absurd (not_refused (plan_short (ltb-false _ _ q) ∙ sym e))
 
 -- ---- the outcome
-
-abbrev pub wrote : Answer ℕ → List ℕ → Outcome (Answer ℕ)
-wrote a l = leaving a l
 
 module _ (w : ℕ) (ls joined out : List ℕ) where
   pub too_many : 2 ^ (8 * w) ≤ length ls → wrote (refused 22 alone) out ≡ write_index w ls joined out
