@@ -1,6 +1,6 @@
 -- Valid items, which a flat string is made of: what a run leaves once calls and returns are struck out, and the invariant behind demand 3.
 use Rattle.std.specs.Prelude.{◌≡◌, false, List, [], ◌∷◌, ◌++◌, ℕ, ◌<◌, ◌≤◌, length, drop}
-use Rattle.number.specs.RoundTripLaws.{Spellable}
+use Rattle.number.specs.Written.{Spellable}
 use Rattle.number.specs.declared.Operand.{Operand}
 use Rattle.reading.specs.Rules.{Rules}
 use Rattle.reading.specs.Lists.{Lists, present, listed}

@@ -3,18 +3,18 @@ use Rattle.std.proofs.Math.Path.{◌≡◌, refl, sym, ap, subst}
 use Rattle.std.proofs.Common.{◌∙◌, lit<, length-drop, get_or-drop, eqb-true}
 use Rattle.std.specs.Prelude.{Bool, eqb, ltb, drop}
 use Rattle.std.proofs.Math.Bool.{true, false, cond}
-use mathlib.Core.List.{List, [], ◌∷◌, ◌++◌}
+use mathlib.Core.List.{List, [], ◌∷◌}
 use Prim.Native.Nat.{ℕ, suc, ◌+◌, ◌<◌}
 use native.Mathlib.Omega.{arith}
 use Rattle.std.proofs.Math.ListN.{length}
 use Rattle.number.specs.Answer.{Values, Answer, accepted, refused, alone}
 use Rattle.number.specs.Number.{Number, charstring_rows, Found, row, no_row, row_of, number_by, read_by}
-use Rattle.number.specs.NumberLaws.{read_some}
+use Rattle.number.proofs.NumberLaws.{read_some}
 use Rattle.number.specs.declared.Operand.{Operand}
-use Rattle.number.specs.RoundTripLaws.{read_width, read_inside, Width, one, two, three, five, Spellable, read_spellable}
+use Rattle.number.specs.Written.{Spellable}
+use Rattle.number.proofs.RoundTripLaws.{read_width, read_inside, Width, one, two, three, five, read_spellable}
 use Rattle.reading.specs.Tokens.{Bytes, Token, number, operator, token, lacking, escaped_at, operator_at, cut_by, cut}
 use Rattle.reading.specs.Valid.{Cuttable}
-use Rattle.reading.specs.Flat.{operator_bytes}
 use Rattle.reading.specs.declared.Operator.{Operator}
 
 -- bytes behind a byte are bytes

@@ -5,19 +5,19 @@ use Rattle.std.specs.Prelude.{refl, true, false, ℕ, ◌<◌, ◌≤◌, take, 
 use Rattle.std.proofs.Common.{sym, subst, ◌∙◌, arith, length-take-le}
 use mathlib.Core.List.{List, [], ◌∷◌}
 use Rattle.std.proofs.Math.ListN.{length}
-use Rattle.number.specs.RoundTripLaws.{Spellable}
+use Rattle.number.specs.Written.{Spellable}
 use Rattle.number.specs.declared.Operand.{Operand}
 use Rattle.reading.specs.Rules.{Rules}
 use Rattle.reading.specs.Lists.{Lists}
 use Rattle.reading.specs.Tokens.{number, operator, token, cut, Bytes}
-use Rattle.reading.specs.CutLaws.{cut_off, bytes_drop}
+use Rattle.reading.proofs.CutLaws.{cut_off, bytes_drop}
 use Rattle.reading.specs.Items.{Item, operand, bare, masked, Left, popped, counted, at_mask, left_over, leaves, left_by}
 use Rattle.reading.specs.Reading.{Entering, call, return, struck, State, shows}
 use Rattle.reading.specs.Reading.{start, Ending, back, ended, stopped, Step, ends_in_operand, reading}
 use Rattle.reading.specs.Valid.{Cuttable, Valid, none, number_behind, stem_behind, clear_behind, mask_behind, end_behind}
 use Rattle.reading.specs.Valid.{Taken, Good, Ended, Ends, ByteLists}
-use Rattle.reading.specs.StepLaws.{declines, goes, Goes, pushes, stems, clears, masks, enters, returns, ends, Stepped, spent, begun, token_is}
-use Rattle.reading.specs.RunLaws.{Led, Kept, kept}
+use Rattle.reading.proofs.StepLaws.{declines, goes, Goes, pushes, stems, clears, masks, enters, returns, ends, Stepped, spent, begun, token_is}
+use Rattle.reading.proofs.RunLaws.{Led, Kept, kept}
 use Rattle.reading.specs.declared.Operator.{Operator}
 use Rattle.reading.specs.declared.Kind.TheVariants.{Stem, Clear, Mask, End}
 

@@ -11,7 +11,8 @@ use Rattle.std.proofs.Math.ListN.{length, length-append}
 use Rattle.std.proofs.Math.Seq.{take_at, drop_at}
 use Rattle.number.specs.Number.{charstring_rows}
 use Rattle.number.specs.Written.{spelling}
-use Rattle.number.specs.RoundTripLaws.{Spellable, read_spelling, spelling_some}
+use Rattle.number.specs.Written.{Spellable}
+use Rattle.number.proofs.RoundTripLaws.{read_spelling, spelling_some}
 use Rattle.number.specs.declared.Operand.{Operand}
 use Rattle.reading.specs.Rules.{Rules}
 use Rattle.reading.specs.Lists.{Lists}
@@ -37,7 +38,7 @@ use Rattle.reading.specs.Reading.{
   reading,
 }
 use Rattle.reading.specs.Flat.{operator_bytes, spelled, flat, Straight, is_mask, shown_behind, behind, straight_from, straight}
-use Rattle.reading.specs.StepLaws.{Goes, pushes, stems, clears, masks, ends, token_goes}
+use Rattle.reading.proofs.StepLaws.{Goes, pushes, stems, clears, masks, ends, token_goes}
 use Rattle.reading.specs.Valid.{Valid, none, number_behind, stem_behind, clear_behind, mask_behind, Whole, open_ended, end_behind, Cuttable}
 use Rattle.reading.specs.declared.Operator.{Operator}
 use Rattle.reading.specs.declared.Kind.{Kind}
@@ -74,8 +75,9 @@ module _ (rules : Rules) where
   number_back : (f : List Item) (o : Operand) → Spellable false o → OneBack f (operand o)
   unfolding spelled behind
   number_back f o p fuel z =
-      straight_step fuel f _ (some (spelling charstring_rows o) z (spelling_some false o p))
-      ∙ ap (behind rules _ f _) (number_cut o p z)
+      let bytes = spelling charstring_rows o ++ z in
+      straight_step fuel f bytes (some (spelling charstring_rows o) z (spelling_some false o p))
+      ∙ ap (behind rules (λ g more. straight_from rules fuel g more) f bytes) (number_cut o p z)
 
   not_mask : (k : Kind) → is_mask k ≡ false → (p : Operator) → rules.kind p ≡ k → (f : List Item) (z : List ℕ)
       → shown_behind rules f p z ≡ record { items = bare p ∷ f; rest = z }
@@ -84,8 +86,9 @@ module _ (rules : Rules) where
   bare_back : (f : List Item) (p : Operator) → Cuttable p → (k : Kind) → rules.kind p ≡ k → is_mask k ≡ false → OneBack f (bare p)
   unfolding spelled behind
   bare_back f p c k e h fuel z =
-      straight_step fuel f _ (some (operator_bytes p) z (operator_some p))
-      ∙ ap (behind rules _ f _) (c z)
+      let bytes = operator_bytes p ++ z in
+      straight_step fuel f bytes (some (operator_bytes p) z (operator_some p))
+      ∙ ap (behind rules (λ g more. straight_from rules fuel g more) f bytes) (c z)
       ∙ ap (λ (x : Straight). straight_from rules fuel x.items x.rest) (not_mask k h p e f z)
 
   mask_back : (f : List Item) (p : Operator) (m : List ℕ) → Cuttable p → rules.kind p ≡ Mask → length m ≡ (at_mask (left_by rules f)).mask
@@ -95,7 +98,7 @@ module _ (rules : Rules) where
       let bytes = operator_bytes p ++ (m ++ z) in
       ap (straight_from rules (suc fuel) f) (append_assoc (operator_bytes p) m z)
       ∙ straight_step fuel f bytes (some (operator_bytes p) (m ++ z) (operator_some p))
-      ∙ ap (behind rules _ f bytes) (c (m ++ z))
+      ∙ ap (behind rules (λ g more. straight_from rules fuel g more) f bytes) (c (m ++ z))
       ∙ ap (λ (x : Straight). straight_from rules fuel x.items x.rest) shown_mask
     where
       shown_mask : shown_behind rules f p (m ++ z) ≡ record { items = masked p m ∷ f; rest = z }
