@@ -9,7 +9,7 @@ use Rattle.number.specs.Answer.{Values, Answer, accepted, refused, alone}
 use Rattle.number.specs.Call.{callee}
 use Rattle.number.specs.declared.Operand.{Operand}
 use Rattle.index.specs.Index.{Place, place}
-use Rattle.index.specs.IndexLaws.{lies}
+use Rattle.index.specs.Index.{lies}
 use Rattle.reading.specs.Rules.{Rules}
 use Rattle.reading.specs.Reading.{admitted}
 use Rattle.charstring.specs.Words.{enterable, aim_by, aimed, Names}
