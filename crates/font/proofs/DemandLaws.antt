@@ -7,9 +7,9 @@ use Prim.Native.Nat.{ℕ, ◌+◌, ◌*◌, ◌<◌, ◌≤◌, ◌^◌}
 use Rattle.std.proofs.Math.Dec.{leb}
 use Rattle.std.proofs.lemmas.List.{length-replicate}
 use Rattle.number.specs.Answer.{Answer, accepted, refused, alone, mapped, leaving, Ready, sized, into}
-use Rattle.number.specs.AnswerLaws.{refused_accepted, accepted_same, answer_as, into_accepted, into_fits}
+use Rattle.number.proofs.AnswerLaws.{refused_accepted, accepted_same, answer_as, into_accepted, into_fits}
 use Rattle.index.specs.Index.{extent, part}
-use Rattle.index.specs.IndexLaws.{has}
+use Rattle.index.specs.Index.{has}
 use Rattle.index.specs.Formed.{formation}
 use Rattle.index_writing.specs.Writing.{index_of}
 use Rattle.reading.specs.Rules.{Rules}
@@ -20,18 +20,18 @@ use Rattle.reading.specs.Reading.{Shown, struck, Run, original}
 use Rattle.reading.specs.Answers.{flattening}
 use Rattle.reading.specs.Masks.{StemsFirst, ByNote, CleanMasks}
 use Rattle.reading.specs.Demands.{EndcharLast, empty, SameGlyph, reported}
-use Rattle.reading.specs.AnswerLaws.{AcceptedBy, came_to_end}
-use Rattle.reading.specs.BudgetLaws.{tokens_budget}
-use Rattle.reading.specs.StraightLaws.{Just, struck_shown}
-use Rattle.reading.specs.SameGlyphLaws.{empty_formed, part_bytes, lists_bytes, items_tokens, just_again, reported_is}
-use Rattle.reading.specs.DemandLaws.{demand_three, masks_by_note, masks_clean, ends_in_endchar}
+use Rattle.reading.proofs.AnswerLaws.{AcceptedBy, came_to_end}
+use Rattle.reading.proofs.BudgetLaws.{tokens_budget}
+use Rattle.reading.proofs.StraightLaws.{Just, struck_shown}
+use Rattle.reading.proofs.SameGlyphLaws.{empty_formed, part_bytes, lists_bytes, items_tokens, just_again, reported_is}
+use Rattle.reading.proofs.DemandLaws.{demand_three, masks_by_note, masks_clean, ends_in_endchar}
 use Rattle.font.specs.Font.{flat_in, Choice, every, these, within, all_from, chosen, lengths_of, joined_of, indexed}
 use Rattle.font.specs.Font.{if_formed, font_by, flat_glyphs, flatten_glyphs, flatten_font}
 use Rattle.font.specs.Demands.{Alone, SameEntry, SameFont, FontDemand, FontIsGlyphs, IsFormed}
-use Rattle.font.specs.FontLaws.{all_alike}
-use Rattle.font.specs.ChoiceLaws.{within_there, within_accepted}
-use Rattle.font.specs.WholeLaws.{let_in}
-use Rattle.font.specs.EntryLaws.{Each, each, Holds, index_holds, Gave, gave, flat_accepted, alone_gives}
+use Rattle.font.proofs.FontLaws.{all_alike}
+use Rattle.font.proofs.ChoiceLaws.{within_there, within_accepted}
+use Rattle.font.proofs.WholeLaws.{let_in}
+use Rattle.font.proofs.EntryLaws.{Each, each, Holds, index_holds, Gave, gave, flat_accepted, alone_gives}
 
 -- ---- past a list that is well formed
 

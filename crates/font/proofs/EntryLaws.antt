@@ -11,17 +11,17 @@ use Rattle.std.proofs.Math.ListN.{drop}
 use Rattle.std.proofs.Math.Seq.{drop-append-add}
 use borrow.Author.Tests.{ltb-false, leb-false, eqb-true}
 use Rattle.number.specs.Answer.{Values, Answer, accepted, refused, alone, leaving, Ready, into}
-use Rattle.number.specs.AnswerLaws.{refused_accepted, accepted_same, mapped_refused, into_fits}
+use Rattle.number.proofs.AnswerLaws.{refused_accepted, accepted_same, mapped_refused, into_fits}
 use Rattle.index.specs.Index.{extent, part}
-use Rattle.index.specs.IndexLaws.{has}
+use Rattle.index.specs.Index.{has}
 use Rattle.index.specs.Formed.{formation}
 use Rattle.index_writing.specs.Writing.{total, element, index_bytes, index_of}
 use Rattle.index_writing.specs.Code.{Writable}
-use Rattle.index_writing.specs.RoundTripLaws.{read_written, part_written, formed_written}
+use Rattle.index_writing.proofs.RoundTripLaws.{read_written, part_written, formed_written}
 use Rattle.reading.specs.Rules.{Rules}
 use Rattle.reading.specs.Reading.{Run, original}
 use Rattle.reading.specs.Answers.{Flattening, flat_of, flat_ready, judged, outcome, room_as_lent, flattening}
-use Rattle.reading.specs.AnswerLaws.{AcceptedBy, Judged, takes, turns_down, judged_so, judged_accepted, gate_open}
+use Rattle.reading.proofs.AnswerLaws.{AcceptedBy, Judged, takes, turns_down, judged_so, judged_accepted, gate_open}
 use Rattle.font.specs.Font.{bytes_in, flat_in, decided, all_from, lengths_of, joined_of}
 use Rattle.font.specs.Demands.{Alone, IsFormed}
 
