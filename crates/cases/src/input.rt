@@ -1,8 +1,9 @@
-// Standard input, cut into records.
+// The input, cut into records.
 ghost use Rattle.std.specs.Prelude.{◌≤◌};
 
 use crate::arguments::word_at;
-use libc::STDIN_FILENO;
+use part::read_full;
+use std::io::Read;
 
 // What stands next.
 #[derive(Drop)]
@@ -17,9 +18,9 @@ pub(crate) enum Next {
 }
 
 // Reads the next record into the buffer. A read that fails counts as the end of the input.
-pub(crate) fn next_record(buffer: &mut [u8]) -> Next {
+pub(crate) fn next_record<R: Read>(input: &mut R, buffer: &mut [u8]) -> Next {
     let mut head = [0u8; 4];
-    let got = io::read_full(STDIN_FILENO, &mut head);
+    let got = read_full(input, &mut head);
     if got == 0 {
         return Next::End;
     }
@@ -28,19 +29,19 @@ pub(crate) fn next_record(buffer: &mut [u8]) -> Next {
     }
     let n = word_at(&head, 0) as usize;
     if buffer.len() < n {
-        return pass_over(n, buffer);
+        return pass_over(input, n, buffer);
     }
-    if read_up_to(n, buffer) < n {
+    if read_up_to(input, n, buffer) < n {
         return Next::Broken;
     }
     Next::Record(n)
 }
 
 // Reads a record of n bytes and keeps none.
-fn pass_over(n: usize, buffer: &mut [u8]) -> Next {
+fn pass_over<R: Read>(input: &mut R, n: usize, buffer: &mut [u8]) -> Next {
     let mut left = n;
     while 0 < left {
-        let got = read_up_to(left, buffer);
+        let got = read_up_to(input, left, buffer);
         if got == 0 {
             return Next::Broken;
         }
@@ -50,11 +51,11 @@ fn pass_over(n: usize, buffer: &mut [u8]) -> Next {
 }
 
 // Reads n bytes to the start of the buffer, or as many as it holds or the input has.
-fn read_up_to(n: usize, buffer: &mut [u8]) -> usize
+fn read_up_to<R: Read>(input: &mut R, n: usize, buffer: &mut [u8]) -> usize
     ensures { result ≤ n }
 {
     if n <= buffer.len() {
-        return io::read_full(STDIN_FILENO, &mut buffer[0..n]);
+        return read_full(input, &mut buffer[0..n]);
     }
-    io::read_full(STDIN_FILENO, buffer)
+    read_full(input, buffer)
 }
