@@ -3,7 +3,7 @@ SECONDS =
 SOURCES = ../shared
 export SOURCES
 
-.PHONY: kit test run lib native size list driver differential faults fixed fuzz fuzz-faults outlines bench clean
+.PHONY: edits kit test run lib native size list driver differential faults fixed fuzz fuzz-faults outlines bench clean
 
 # the proofs, the compiler and the loader are the kit's
 kit:
@@ -15,7 +15,7 @@ test: kit
 # the programs `flatten` and `why`, proved and built, on four font parts
 run: kit
 	@echo 'make run: proves and builds the programs flatten and why, which takes some minutes the first time, and then runs them on four font parts.'
-	@rt check flatten why
+	@for name in flatten why; do (cd crates/$$name && rt run </dev/null >/dev/null) || exit 1; done
 	@echo
 	@echo 'examples/squares.part, a glyph that calls one subroutine twice: 0, the length, the tokens run and the width, - for none; then its flat string.'
 	@tools/run flatten examples/squares.part
@@ -38,17 +38,15 @@ run: kit
 lib: kit
 	@tools/lib
 
-# the same for the machine that this runs on, under target/native: to try and to measure with, where that is not x86-64
+# the same under target/native, where the comparison and the benchmark look for it
 native: kit
 	@tools/native-staticlib ighzamrel
 	@tools/lib target/native
-	@echo 'native: target/native has libighzamrel.a, include/ighzamrel.h and pkgconfig/ighzamrel.pc for this machine'
+	@echo 'native: target/native has libighzamrel.a, include/ighzamrel.h and pkgconfig/ighzamrel.pc'
 
-# how many bytes each C function brings into a program that is linked for size: from target/lib, and from target/native where that is another
-OTHER := $(filter-out x86_64,$(shell uname -m))
+# how many bytes each C function brings into a program that is linked for size
 size: lib
-	@$(if $(OTHER),$(MAKE) --no-print-directory native)
-	@tools/text-size target/lib/libighzamrel.a $(OTHER:%=target/native/libighzamrel.a)
+	@tools/text-size target/lib/libighzamrel.a
 
 # the stored list of the program `cases`, made anew from the Rust's answers and the rules
 list:
@@ -98,6 +96,10 @@ outlines: native
 # speed, the proved functions against the Rust; FONTS names folders to look for fonts in, else Debian's are searched
 bench:
 	bench/run $(FONTS)
+
+# all facts that refuse the must-fail edits, and not the first alone: each edit is tried once more
+edits:
+	tools/must-fail-logs
 
 clean:
 	rm -rf target
