@@ -1,7 +1,6 @@
 // Flattens one glyph or a whole font: a font part in, from standard input or a named file, and its
 // flat string, or the INDEX of all, or its refusal out, in a line that a person can read. What is no font part, or is asked wrongly, is said
-// on standard error, and nothing is then written to standard output: a program of Rattle has no exit
-// status to say it by.
+// on standard error, and nothing is then written to standard output. The exit status is 0 (DECISIONS 55).
 #![tactic(auto)]
 
 mod answer;
