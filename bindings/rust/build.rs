@@ -1,5 +1,5 @@
 //! Tells the linker where the proved archive is: in IGHZAMREL_LIB_DIR, else where `make lib` puts it in this
-//! repository. That is x86-64 code; for another machine `make native` puts one for trying and measuring.
+//! repository. That is x86-64 code, and there is none for another machine.
 
 use std::path::PathBuf;
 use std::{env, process};
@@ -8,16 +8,12 @@ const ARCHIVE: &str = "libighzamrel.a";
 
 fn main() {
     println!("cargo:rerun-if-env-changed=IGHZAMREL_LIB_DIR");
-    let (make, place) = match env::var("CARGO_CFG_TARGET_ARCH").as_deref() {
-        Ok("x86_64") => ("make lib", "target/lib"),
-        _ => ("make native", "target/native"),
-    };
-    let folder = folder(place);
+    let folder = folder();
     let archive = folder.join(ARCHIVE);
     println!("cargo:rerun-if-changed={}", archive.display());
     if !archive.is_file() {
         eprintln!(
-            "ighzamrel: there is no {}; run `{make}` at the top of the repository, \
+            "ighzamrel: there is no {}; run `make lib` at the top of the repository, for x86-64, \
              or set IGHZAMREL_LIB_DIR to the folder that has {ARCHIVE}, by its whole path",
             archive.display()
         );
@@ -27,12 +23,12 @@ fn main() {
     println!("cargo:rustc-link-lib=static=ighzamrel");
 }
 
-fn folder(place: &str) -> PathBuf {
+fn folder() -> PathBuf {
     match env::var_os("IGHZAMREL_LIB_DIR") {
         Some(folder) => folder.into(),
         None => {
             let crate_folder = PathBuf::from(env::var_os("CARGO_MANIFEST_DIR").unwrap_or_default());
-            crate_folder.join("../..").join(place)
+            crate_folder.join("../../target/lib")
         }
     }
 }
