@@ -1,5 +1,6 @@
 -- What the two passes promise each other. A reader need not believe it: no public contract names it.
-use Rattle.std.specs.Prelude.{◌≡◌, Bool, true, false, List, [], ◌∷◌, ◌++◌, ℕ, zero, suc, ◌+◌, ◌<◌, ◌≤◌, length, get_or, take, set}
+use Rattle.std.specs.Prelude.{◌≡◌, Bool, true, false, List, [], ◌∷◌, ◌++◌, ℕ, zero, suc, ◌+◌, ◌<◌, ◌≤◌, length, get_or, take}
+use Rattle.std.specs.Prelude.{set}
 use Rattle.number.specs.Answer.{Answer, accepted, refused, alone, at_glyph, mapped, Outcome, sized, into}
 use Rattle.index.specs.Index.{data_start, part}
 use Rattle.index_writing.specs.Writing.{total, size_for, offsets, reach_of}

@@ -28,7 +28,8 @@ pub refusals :
 unfolding write_index into index_of total
 refusals = (refl, refl, refl)
 
-pub sizes : (size_for 255 ≡ 1) × (size_for 256 ≡ 2) × (size_for 65535 ≡ 2) × (size_for 65536 ≡ 3) × (size_for 16777215 ≡ 3) × (size_for 16777216 ≡ 4)
+pub sizes : (size_for 255 ≡ 1) × (size_for 256 ≡ 2) × (size_for 65535 ≡ 2) × (size_for 65536 ≡ 3) × (size_for 16777215 ≡ 3)
+    × (size_for 16777216 ≡ 4)
 unfolding size_for
 sizes = (refl, refl, refl, refl, refl, refl)
 

@@ -1,5 +1,6 @@
 -- Numbers of several bytes, the most significant first (TN5176, section 3; RULES, "Numbers").
-use Rattle.std.specs.Prelude.{ℕ, zero, suc, ◌+◌, ◌*◌, ◌/◌, ◌%◌, Bool, cond, ◌&&◌, List, [], ◌∷◌, ◌++◌, length, get_or, take, drop, leb}
+use Rattle.std.specs.Prelude.{ℕ, zero, suc, ◌+◌, ◌*◌, ◌/◌, ◌%◌, Bool, cond, ◌&&◌, List, [], ◌∷◌, ◌++◌, length, get_or, take}
+use Rattle.std.specs.Prelude.{drop, leb}
 use Rattle.number.specs.Answer.{Outcome, leaving}
 use Rattle.number.specs.declared.big_endian.Big.{Big}
 use Rattle.number.specs.declared.big_endian.Big.TheVariants.{Value, Lacking}

@@ -1,5 +1,6 @@
 -- A call's operand as an index (RULES, "Numbers"), and the entry that it names (the same; TN5176, section 16).
-use Rattle.std.specs.Prelude.{ℕ, zero, suc, ◌+◌, ◌-◌, ◌*◌, ◌/◌, ◌^◌, Bool, cond, ◌||◌, ℤ, pos, negsuc, neg_ℤ, nat_abs, ◌+ℤ◌, leb, ltb, eqb}
+use Rattle.std.specs.Prelude.{ℕ, zero, suc, ◌+◌, ◌-◌, ◌*◌, ◌/◌, ◌^◌, Bool, cond, ◌||◌, ℤ, pos, negsuc, neg_ℤ, nat_abs, ◌+ℤ◌}
+use Rattle.std.specs.Prelude.{leb, ltb, eqb}
 use Rattle.number.specs.Answer.{Answer, accepted, refused, alone}
 use Rattle.number.specs.declared.Operand.{Operand}
 use Rattle.number.specs.declared.call.Whole.{Whole}

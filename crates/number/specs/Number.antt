@@ -1,5 +1,6 @@
 -- The numbers of charstrings and DICTs (TN5176, section 4, Table 3; TN5177, section 3.2, Table 1; RULES, "Numbers"): a table of data, and its reader.
-use Rattle.std.specs.Prelude.{ℕ, ◌+◌, ◌-◌, ◌*◌, ◌^◌, Bool, true, false, cond, ◌&&◌, List, [], ◌∷◌, ◌++◌, ℤ, pos, neg_ℤ, length, get_or, leb, ltb, eqb}
+use Rattle.std.specs.Prelude.{ℕ, ◌+◌, ◌-◌, ◌*◌, ◌^◌, Bool, true, false, cond, ◌&&◌, List, [], ◌∷◌, ◌++◌, ℤ, pos, neg_ℤ}
+use Rattle.std.specs.Prelude.{length, get_or, leb, ltb, eqb}
 use Rattle.std.proofs.Math.IntN.{sub_ℕ}
 use Rattle.number.specs.Answer.{Answer, accepted, refused, alone}
 use Rattle.number.specs.BigEndian.{be_at}

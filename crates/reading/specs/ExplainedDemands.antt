@@ -1,6 +1,7 @@
 -- What is proved of why a charstring is refused (document 02, T-06), as types. The proofs stand in ExplainedLaws.antt and ExplainedWordLaws.antt.
 -- Nothing is asked of the rules. The calls are those of `explanation`, the outermost first.
-use Rattle.std.specs.Prelude.{◌≡◌, true, cond, List, [], ◌∷◌, ◌++◌, ◌⊎◌, ℕ, ◌+◌, ◌-◌, ◌*◌, ◌/◌, ◌<◌, ◌≤◌, leb, length, get_or, drop}
+use Rattle.std.specs.Prelude.{◌≡◌, true, cond, List, [], ◌∷◌, ◌++◌, ◌⊎◌, ℕ, ◌+◌, ◌-◌, ◌*◌, ◌/◌, ◌<◌, ◌≤◌, leb}
+use Rattle.std.specs.Prelude.{length, get_or, drop}
 use Rattle.number.specs.Answer.{Values, Answer, accepted, refused, needing_at, number_in}
 use Rattle.number.specs.Call.{callee}
 use Rattle.number.specs.declared.Operand.{Operand}

@@ -1,6 +1,7 @@
 -- What is proved of flattening with rows (document 02, T-13), as types. The proofs stand in MarkedDemandLaws.antt. Nothing is asked of the rules.
 -- A run is `original`'s: of a charstring with its lists' bytes and its budget, whatever its end. Its entries are those that it entered.
-use Rattle.std.specs.Prelude.{◌≡◌, Bool, true, false, cond, ◌&&◌, List, ℕ, ◌/◌, ◌%◌, ◌^◌, ◌<◌, ◌≤◌, eqb, ltb, length, get_or, drop}
+use Rattle.std.specs.Prelude.{◌≡◌, Bool, true, false, cond, ◌&&◌, List, ℕ, ◌/◌, ◌%◌, ◌^◌, ◌<◌, ◌≤◌, eqb, ltb, length, get_or}
+use Rattle.std.specs.Prelude.{drop}
 use Rattle.number.specs.Answer.{Values, Answer, accepted, refused, alone, Outcome, leaving}
 use Rattle.index.specs.Index.{part}
 use Rattle.index.specs.Formed.{formation}

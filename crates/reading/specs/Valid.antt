@@ -30,7 +30,8 @@ pub data Valid (rules : Rules) : List Item → Type 0 where
       → Valid rules (bare p ∷ f)
   clear_behind : (p : Operator) (f : List Item) → Cuttable p → rules.kind p ≡ Clear → Valid rules f → Valid rules (bare p ∷ f)
   mask_behind : (p : Operator) (m : List ℕ) (f : List Item) → Cuttable p → rules.kind p ≡ Mask → left_over rules (left_by rules f) ≡ false
-      → (at_mask (left_by rules f)).hints ≤ rules.hints → length m ≡ (at_mask (left_by rules f)).mask → Valid rules f → Valid rules (masked p m ∷ f)
+      → (at_mask (left_by rules f)).hints ≤ rules.hints → length m ≡ (at_mask (left_by rules f)).mask → Valid rules f
+      → Valid rules (masked p m ∷ f)
 
 -- what a run leaves that came to its end, by how: valid items, or an endchar behind them
 pub data Whole (rules : Rules) : Ending → List Item → Type 0 where

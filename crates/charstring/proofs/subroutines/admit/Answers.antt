@@ -33,7 +33,11 @@ lies_at c = ap entry_read (sym c.in-Entry.is) ∙ c.read_entry.ensures
 
 pub returns-in_default : goal.returns-in_default
 returns-in_default c =
-    record { result_value = none_read _ c.args.tail _ c.read_entry.result (keys_opened c.in_default.in_default-own.keys2) c.read_entry.ensures; inside = tt; names = tt }
+    record {
+      result_value = none_read _ c.args.tail _ c.read_entry.result (keys_opened c.in_default.in_default-own.keys2) c.read_entry.ensures;
+      inside = tt;
+      names = tt;
+    }
 
 pub returns-then-levels-eq0 : goal.returns-then-levels-eq0
 returns-then-levels-eq0 c =
