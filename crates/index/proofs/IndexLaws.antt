@@ -11,7 +11,7 @@ use Rattle.number.specs.Answer.{Values, Answer, accepted, refused, alone}
 use Rattle.number.specs.BigEndian.{be_at}
 use Rattle.index.specs.Index.{Extent, data_start, offset, by_last, by_size, by_count, extent}
 use Rattle.index.specs.Index.{Place, place_by, place_in, place, bytes_by, part, start_by, part_by}
-use Rattle.index.specs.Index.{has, lies, absent_for}
+use Rattle.index.specs.Index.{has, lies}
 use Rattle.index.specs.Code.{offset_of, data_of, Headed, reach, Full, Inside}
 use Rattle.index.proofs.OffsetLaws.{start_is}
 

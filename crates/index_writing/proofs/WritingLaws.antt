@@ -6,7 +6,7 @@ use native.Mathlib.Omega.{arith}
 use Rattle.std.proofs.Math.ListN.{length}
 use Rattle.std.proofs.Math.Seq.{drop-cons}
 use borrow.Author.Tests.{lt-ltb, le-ltb, le-leb, lt-leb, eq-eqb, ne_eqb, leb-true, ltb-true, ltb-false, eqb-true, eqb-false}
-use Rattle.number.specs.Answer.{Answer, accepted, refused, alone, needing, Outcome, leaving, sized, into}
+use Rattle.number.specs.Answer.{Answer, accepted, refused, alone, needing, sized, into}
 use Rattle.number.proofs.AnswerLaws.{accepted_same}
 use Rattle.number.specs.BigEndian.{bytes_of, put_at}
 use Rattle.number.proofs.BigEndianLaws.{length_bytes}
