@@ -1,5 +1,5 @@
--- Each public contract of the view fixes its result, as Once.antt of the crate index has it for the plain reader. A function over a struct that holds a slice
--- has no generated reading: so what its `ensures` says is shown to be one fact, and that fact fixes the result. Assumes nothing.
+-- Each public contract of the view fixes its result, as Once.antt of the crate index has it for the plain reader. Of a function over a struct that holds
+-- a slice, what its `ensures` says is shown to be one fact, and that fact fixes the result. Assumes nothing.
 use mathlib.Core.Path.{◌≡◌, refl, sym, ap, ◌∙◌}
 use mathlib.Core.List.{List}
 use Prim.Native.Nat.{ℕ}

@@ -9,34 +9,34 @@ use denote.Triple.Clauses.{AtExit}
 use Rattle.number.specs.Answer.{Outcome, leaving}
 use Rattle.index.specs.Index.{Extent, Place}
 use Rattle.ighzamrel.specs.Told.{Told, told, NumberPlaces, IntegerPlaces, ListPlaces, FlatPlaces, ToldMarked, ToldExplained, FontPlaces}
-use Rattle.ighzamrel.proofs.numbers.ighzamrel_read_charstring_number.Kinds as charstring_kinds
-use Rattle.ighzamrel.proofs.numbers.ighzamrel_read_charstring_number.Reads as charstring_reads
-use Rattle.ighzamrel.proofs.numbers.ighzamrel_read_dict_integer.Kinds as dict_kinds
-use Rattle.ighzamrel.proofs.numbers.ighzamrel_read_dict_integer.Reads as dict_reads
-use Rattle.ighzamrel.proofs.numbers.ighzamrel_write_charstring_number.Kinds as charstring_write_kinds
-use Rattle.ighzamrel.proofs.numbers.ighzamrel_write_charstring_number.Reads as charstring_write_reads
-use Rattle.ighzamrel.proofs.numbers.ighzamrel_write_dict_integer.Kinds as dict_write_kinds
-use Rattle.ighzamrel.proofs.numbers.ighzamrel_write_dict_integer.Reads as dict_write_reads
-use Rattle.ighzamrel.proofs.numbers.ighzamrel_call_index.Kinds as index_kinds
-use Rattle.ighzamrel.proofs.numbers.ighzamrel_call_index.Reads as index_reads
-use Rattle.ighzamrel.proofs.indexes.ighzamrel_read_index.Kinds as read_kinds
-use Rattle.ighzamrel.proofs.indexes.ighzamrel_read_index.Reads as read_reads
-use Rattle.ighzamrel.proofs.indexes.ighzamrel_read_entry.Kinds as entry_kinds
-use Rattle.ighzamrel.proofs.indexes.ighzamrel_read_entry.Reads as entry_reads
-use Rattle.ighzamrel.proofs.indexes.ighzamrel_check_list.Kinds as list_kinds
-use Rattle.ighzamrel.proofs.indexes.ighzamrel_check_list.Reads as list_reads
-use Rattle.ighzamrel.proofs.indexes.ighzamrel_write_index.Kinds as write_kinds
-use Rattle.ighzamrel.proofs.indexes.ighzamrel_write_index.Reads as write_reads
-use Rattle.ighzamrel.proofs.flattening.ighzamrel_flatten.Kinds as flatten_kinds
-use Rattle.ighzamrel.proofs.flattening.ighzamrel_flatten.Reads as flatten_reads
-use Rattle.ighzamrel.proofs.marking.ighzamrel_flatten_marked.Kinds as marked_kinds
-use Rattle.ighzamrel.proofs.marking.ighzamrel_flatten_marked.Reads as marked_reads
-use Rattle.ighzamrel.proofs.explaining.ighzamrel_explain.Kinds as explain_kinds
-use Rattle.ighzamrel.proofs.explaining.ighzamrel_explain.Reads as explain_reads
-use Rattle.ighzamrel.proofs.fonts.ighzamrel_flatten_font.Kinds as font_kinds
-use Rattle.ighzamrel.proofs.fonts.ighzamrel_flatten_font.Reads as font_reads
-use Rattle.ighzamrel.proofs.fonts.ighzamrel_flatten_glyphs.Kinds as glyphs_kinds
-use Rattle.ighzamrel.proofs.fonts.ighzamrel_flatten_glyphs.Reads as glyphs_reads
+use Rattle.ighzamrel_c.proofs.numbers.ighzamrel_read_charstring_number.Kinds as charstring_kinds
+use Rattle.ighzamrel_c.proofs.numbers.ighzamrel_read_charstring_number.Reads as charstring_reads
+use Rattle.ighzamrel_c.proofs.numbers.ighzamrel_read_dict_integer.Kinds as dict_kinds
+use Rattle.ighzamrel_c.proofs.numbers.ighzamrel_read_dict_integer.Reads as dict_reads
+use Rattle.ighzamrel_c.proofs.numbers.ighzamrel_write_charstring_number.Kinds as charstring_write_kinds
+use Rattle.ighzamrel_c.proofs.numbers.ighzamrel_write_charstring_number.Reads as charstring_write_reads
+use Rattle.ighzamrel_c.proofs.numbers.ighzamrel_write_dict_integer.Kinds as dict_write_kinds
+use Rattle.ighzamrel_c.proofs.numbers.ighzamrel_write_dict_integer.Reads as dict_write_reads
+use Rattle.ighzamrel_c.proofs.numbers.ighzamrel_call_index.Kinds as index_kinds
+use Rattle.ighzamrel_c.proofs.numbers.ighzamrel_call_index.Reads as index_reads
+use Rattle.ighzamrel_c.proofs.indexes.ighzamrel_read_index.Kinds as read_kinds
+use Rattle.ighzamrel_c.proofs.indexes.ighzamrel_read_index.Reads as read_reads
+use Rattle.ighzamrel_c.proofs.indexes.ighzamrel_read_entry.Kinds as entry_kinds
+use Rattle.ighzamrel_c.proofs.indexes.ighzamrel_read_entry.Reads as entry_reads
+use Rattle.ighzamrel_c.proofs.indexes.ighzamrel_check_list.Kinds as list_kinds
+use Rattle.ighzamrel_c.proofs.indexes.ighzamrel_check_list.Reads as list_reads
+use Rattle.ighzamrel_c.proofs.indexes.ighzamrel_write_index.Kinds as write_kinds
+use Rattle.ighzamrel_c.proofs.indexes.ighzamrel_write_index.Reads as write_reads
+use Rattle.ighzamrel_c.proofs.flattening.ighzamrel_flatten.Kinds as flatten_kinds
+use Rattle.ighzamrel_c.proofs.flattening.ighzamrel_flatten.Reads as flatten_reads
+use Rattle.ighzamrel_c.proofs.marking.ighzamrel_flatten_marked.Kinds as marked_kinds
+use Rattle.ighzamrel_c.proofs.marking.ighzamrel_flatten_marked.Reads as marked_reads
+use Rattle.ighzamrel_c.proofs.explaining.ighzamrel_explain.Kinds as explain_kinds
+use Rattle.ighzamrel_c.proofs.explaining.ighzamrel_explain.Reads as explain_reads
+use Rattle.ighzamrel_c.proofs.fonts.ighzamrel_flatten_font.Kinds as font_kinds
+use Rattle.ighzamrel_c.proofs.fonts.ighzamrel_flatten_font.Reads as font_reads
+use Rattle.ighzamrel_c.proofs.fonts.ighzamrel_flatten_glyphs.Kinds as glyphs_kinds
+use Rattle.ighzamrel_c.proofs.fonts.ighzamrel_flatten_glyphs.Reads as glyphs_reads
 
 -- Of x, what each parameter is at the end in their order: `x.0` is the first, `x.1.0` the second, `x.1.1.0` the third, and so on.
 

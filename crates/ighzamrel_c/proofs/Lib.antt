@@ -1,0 +1,5 @@
+pub mod Once
+pub mod Demands
+pub mod FontDemands
+pub mod Strict
+pub mod Edited
