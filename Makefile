@@ -15,7 +15,7 @@ test: kit
 # the programs `flatten` and `why`, proved and built, on four font parts
 run: kit
 	@echo 'make run: proves and builds the programs flatten and why, which takes some minutes the first time, and then runs them on four font parts.'
-	@for name in flatten why; do (cd crates/$$name && rt run </dev/null >/dev/null) || exit 1; done
+	@for name in flatten why; do (cd crates/$$name && rt run <stdin >/dev/null) || exit 1; done
 	@echo
 	@echo 'examples/squares.part, a glyph that calls one subroutine twice: 0, the length, the tokens run and the width, - for none; then its flat string.'
 	@tools/run flatten examples/squares.part

@@ -9,11 +9,16 @@ const ARCHIVE: &str = "libighzamrel.a";
 fn main() {
     println!("cargo:rerun-if-env-changed=IGHZAMREL_LIB_DIR");
     let folder = folder();
+    let machine = env::var("CARGO_CFG_TARGET_ARCH").unwrap_or_default();
+    if machine != "x86_64" && env::var_os("IGHZAMREL_LIB_DIR").is_none() {
+        eprintln!("ighzamrel: `make lib` makes x86-64 code, and this build is for {machine}; IGHZAMREL_LIB_DIR may name a folder with another {ARCHIVE}");
+        process::exit(1);
+    }
     let archive = folder.join(ARCHIVE);
     println!("cargo:rerun-if-changed={}", archive.display());
     if !archive.is_file() {
         eprintln!(
-            "ighzamrel: there is no {}; run `make lib` at the top of the repository, for x86-64, \
+            "ighzamrel: there is no {}; run `make lib` at the top of the repository, \
              or set IGHZAMREL_LIB_DIR to the folder that has {ARCHIVE}, by its whole path",
             archive.display()
         );
