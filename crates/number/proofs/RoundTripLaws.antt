@@ -20,6 +20,8 @@ use Rattle.number.proofs.NumberLaws.{Every, every_found, row_range, at_near, at_
 use Rattle.number.specs.Written.{same, has, form_by, spell, bytes, bytes_by, spelling}
 use Rattle.number.specs.Written.{Spellable}
 use Rattle.number.proofs.WrittenLaws.{less_139, after_form, spell_here, spell_past, spelled, length_form, after_le}
+use Rattle.number.specs.Operand.{is_fixed, value_in}
+use Rattle.number.proofs.OperandLaws.{operand_is, fixed_as, value_as}
 use Rattle.number.specs.declared.Operand.{Operand}
 use Rattle.number.specs.declared.write.Form.{Form}
 
@@ -162,10 +164,10 @@ kind_is false true e = never e
 kind_is false false e = refl
 
 -- what a row has is of its kind, and within its range
-has_is : (r : Row) (o : Operand) → has r o ≡ true → (r.fixed ≡ o.fixed) × Within r o.value
+has_is : (r : Row) (o : Operand) → has r o ≡ true → (r.fixed ≡ (is_fixed o)) × Within r (value_in o)
 has_is r o e =
-    let w = both (same r.fixed o.fixed) (le_z r.low o.value && le_z o.value r.high) e in
-    (kind_is r.fixed o.fixed w.0, w.1)
+    let w = both (same r.fixed (is_fixed o)) (le_z r.low (value_in o) && le_z (value_in o) r.high) e in
+    (kind_is r.fixed (is_fixed o) w.0, w.1)
 
 -- the number at the start, by a row, where its bytes are there
 row_reads : (r : Row) (s : List ℕ) (o : Operand) → r.after < length s → operand_by r (get_or s 0 0) (be_at s 1 r.after) ≡ o
@@ -181,7 +183,7 @@ read_written dict o f e rest =
     let x = spelled (Good dict) o f (rows_of dict) (good dict) e in
     let r = x.by in
     let has_it = has_is r o x.its in
-    let back : Reads r o.value f = subst (Reads r o.value) (sym x.is) (x.fact.sound.reads o.value has_it.1) in
+    let back : Reads r (value_in o) f = subst (Reads r (value_in o)) (sym x.is) (x.fact.sound.reads (value_in o) has_it.1) in
     let s = f.first ∷ (bytes_of f.after f.rest ++ rest) in
     let found = x.fact.finds f.first back.from back.to in
     let small : f.rest < 2 ^ (8 * f.after) = subst (λ (n : ℕ). f.rest < 2 ^ (8 * n)) (sym x.after) back.small in
@@ -189,15 +191,12 @@ read_written dict o f e rest =
     let v' : be_at s 1 r.after ≡ f.rest = subst (λ (n : ℕ). be_at s 1 n ≡ f.rest) x.after v in
     let l : length s ≡ suc (length (bytes_of f.after f.rest ++ rest)) = refl in
     let room : r.after < length s = omega (arith, length-append (bytes_of f.after f.rest) rest, length_bytes f.after f.rest, x.after) in
-    let operand : operand_by r f.first (be_at s 1 r.after) ≡ o = ap (operand_by r f.first) v' ∙ operand_is has_it.0 back.value in
+    let operand : operand_by r f.first (be_at s 1 r.after) ≡ o = ap (operand_by r f.first) v' ∙ operand_is o has_it.0 back.value in
     let width : r.after + 1 ≡ length (bytes f) = ap (λ (n : ℕ). n + 1) (sym x.after) ∙ sym (length_form f) in
     sym (read_some (rows_of dict) s (λ z. omega arith))
     ∙ ap (λ (y : Found). number_by y s) found
     ∙ row_reads r s o room operand
     ∙ ap (λ (n : ℕ). accepted (record { operand = o; width = n })) width
-  where
-    operand_is : {t : Bool} {z : ℤ} → t ≡ o.fixed → z ≡ o.value → ◌≡◌ {A = Operand} (record { fixed = t; value = z }) o
-    operand_is p q = λ i. record { fixed = p i; value = q i }
 
 -- ---- what a read says
 
@@ -285,9 +284,9 @@ module _ (b : ℕ) (r : Row) (o : Operand) (h : has r o ≡ true) where
       → (row_of b rs ≡ row r → Formed rs o r.after) → cond t (row q) (row_of b rs) ≡ row r → Formed (q ∷ rs) o r.after
   formed_one q rs t true k p f e =
       record {
-        form = form_by q.value q o.value;
+        form = form_by q.value q (value_in o);
         is = spell_here q rs o k;
-        short = subst (λ (n : ℕ). n ≤ r.after) (sym (after_form q.value q o.value)) (least t e);
+        short = subst (λ (n : ℕ). n ≤ r.after) (sym (after_form q.value q (value_in o))) (least t e);
       }
     where
       least : (t : Bool) → cond t (row q) (row_of b rs) ≡ row r → q.after ≤ r.after
@@ -321,7 +320,7 @@ module _ (dict : Bool) (s : List ℕ) (bytes_of_s : (i : ℕ) → get_or s i 0 <
       let on_it = row_range (get_or s 0 0) q (rows_of dict) r.found in
       let g = every_found (Good dict) q (get_or s 0 0) (rows_of dict) (good dict) r.found in
       let w = g.sound.within (get_or s 0 0) (be_at s 1 q.after) on_it.0 on_it.1 (be_lt s 1 q.after bytes_of_s) in
-      rw (r.operand, same_kind q.fixed) w
+      rw (r.operand, fixed_as q.fixed, value_as q.fixed, same_kind q.fixed) w
 
   pub shortest : Shortest dict x
   shortest =
@@ -351,11 +350,11 @@ narrow = (near_narrow, (above_narrow, (below_narrow, (λ f z w. range_mag 32767 
     below_narrow f (negsuc n) w = omega (arith, leb-true n 1130 (both (leb n 1130) (leb 107 n) w).0)
 
 pub read_16 : (s : List ℕ) → ((i : ℕ) → get_or s i 0 < 256) → (x : Number) → accepted x ≡ read_by charstring_rows s
-    → x.operand.fixed ≡ false → mag x.operand.value < 2 ^ 15
+    → (is_fixed x.operand) ≡ false → mag (value_in x.operand) < 2 ^ 15
 read_16 s bytes_of_s x e f =
     let r = read_row charstring_rows s x e in
     let has_it = has_is r.by x.operand (its_row false s bytes_of_s x e r) in
-    let n = every_found Narrow r.by (get_or s 0 0) charstring_rows narrow r.found (has_it.0 ∙ f) x.operand.value has_it.1 in
+    let n = every_found Narrow r.by (get_or s 0 0) charstring_rows narrow r.found (has_it.0 ∙ f) (value_in x.operand) has_it.1 in
     omega arith
 
 -- ---- the same of an operand's bytes, without naming its form

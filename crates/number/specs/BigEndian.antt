@@ -1,11 +1,7 @@
 -- Numbers of several bytes, the most significant first (TN5176, section 3; RULES, "Numbers").
-use Rattle.std.specs.Prelude.{ℕ, zero, suc, ◌+◌, ◌*◌, ◌/◌, ◌%◌, Bool, cond, ◌&&◌, List, [], ◌∷◌, ◌++◌, length, get_or, take}
-use Rattle.std.specs.Prelude.{drop, leb}
+use Rattle.std.specs.Prelude.{Option, Some, None, ℕ, zero, suc, ◌+◌, ◌*◌, ◌/◌, ◌%◌, Bool, cond, ◌&&◌, List, [], ◌∷◌, ◌++◌}
+use Rattle.std.specs.Prelude.{length, get_or, take, drop, leb}
 use Rattle.number.specs.Answer.{Outcome, leaving}
-use Rattle.number.specs.declared.big_endian.Big.{Big}
-use Rattle.number.specs.declared.big_endian.Big.TheVariants.{Value, Lacking}
-use Rattle.number.specs.declared.big_endian.Stored.{Stored}
-use Rattle.number.specs.declared.big_endian.Stored.TheVariants.{Done, NoRoom}
 
 -- the number that the k bytes of s from `at` on are
 unfoldable pub be_at : List ℕ → ℕ → ℕ → ℕ
@@ -27,11 +23,11 @@ put_at s at k v = take at s ++ (bytes_of k v ++ drop (at + k) s)
 abbrev pub holds : List ℕ → ℕ → ℕ → Bool
 holds s at k = leb k 4 && leb (at + k) (length s)
 
-unfoldable pub big_at : List ℕ → ℕ → ℕ → Big
-big_at s at k = cond (holds s at k) (Value (be_at s at k)) Lacking
+unfoldable pub big_at : List ℕ → ℕ → ℕ → Option ℕ
+big_at s at k = cond (holds s at k) (Some (be_at s at k)) None
 
-unfoldable pub stored_at : List ℕ → ℕ → ℕ → ℕ → Outcome Stored
+unfoldable pub stored_at : List ℕ → ℕ → ℕ → ℕ → Outcome (Option Unit)
 stored_at s at k v =
     cond (holds s at k)
-    (leaving Done (put_at s at k v))
-    (leaving NoRoom s)
+    (leaving (Some tt) (put_at s at k v))
+    (leaving None s)

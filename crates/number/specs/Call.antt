@@ -1,12 +1,13 @@
 -- A call's operand as an index (RULES, "Numbers"), and the entry that it names (the same; TN5176, section 16).
-use Rattle.std.specs.Prelude.{ℕ, zero, suc, ◌+◌, ◌-◌, ◌*◌, ◌/◌, ◌^◌, Bool, cond, ◌||◌, ℤ, pos, negsuc, neg_ℤ, nat_abs, ◌+ℤ◌}
-use Rattle.std.specs.Prelude.{leb, ltb, eqb}
-use Rattle.number.specs.Answer.{Answer, accepted, refused, alone}
+use Rattle.std.specs.Prelude.{ℕ, zero, suc, ◌+◌, ◌-◌, ◌*◌, ◌/◌, ◌^◌, Bool, cond, ◌||◌, ℤ, pos, negsuc, neg_ℤ, nat_abs}
+use Rattle.std.specs.Prelude.{◌+ℤ◌, leb, ltb, eqb}
+use Rattle.number.specs.Answer.{Answer, number_in, accepted, refused, alone}
+use Rattle.number.specs.Operand.{is_fixed, value_in}
 use Rattle.number.specs.declared.Operand.{Operand}
-use Rattle.number.specs.declared.call.Whole.{Whole}
-use Rattle.number.specs.declared.call.Whole.TheVariants.{Is, Not}
-use Rattle.number.specs.declared.call.Callee.{Callee}
-use Rattle.number.specs.declared.call.Callee.TheVariants.{Entry, NotWhole, Outside}
+use Rattle.std.specs.Prelude.{Result, Ok, Err}
+use Rattle.number.specs.declared.call.NotWhole.{NotWhole}
+use Rattle.number.specs.declared.call.CallError.{CallError}
+use Rattle.number.specs.declared.call.CallError.TheVariants.{NotWhole as Part, Outside}
 
 -- the bit length of m, of at most k
 unfoldable pub bit_length : ℕ → ℕ → ℕ
@@ -39,9 +40,9 @@ signed_as (negsuc n) q = neg_ℤ (pos q)
 -- the index that an operand is, or 7
 unfoldable pub call_index : Bool → Operand → Answer ℤ
 call_index exact o =
-    cond o.fixed
-    (cond (counts exact (nat_abs o.value)) (accepted (signed_as o.value (nearest (nat_abs o.value)))) (refused 7 alone))
-    (accepted o.value)
+    cond (is_fixed o)
+    (cond (counts exact (nat_abs (value_in o))) (accepted (signed_as (value_in o) (nearest (nat_abs (value_in o))))) (refused 7 alone))
+    (accepted (value_in o))
 
 -- the bias of a list of so many entries (TN5176, section 16)
 abbrev pub bias_of : ℕ → ℕ
@@ -60,12 +61,19 @@ biased count (refused n v) = refused n v
 unfoldable pub callee : Bool → ℕ → Operand → Answer ℕ
 callee exact count o = biased count (call_index exact o)
 
--- what the enums say
-abbrev pub whole_of : Whole → Answer ℤ
-whole_of (Is z) = accepted z
-whole_of Not = refused 7 alone
+-- what the results say
+abbrev pub whole_of : Result ℤ NotWhole → Answer ℤ
+whole_of (Ok z) = accepted z
+whole_of (Err e) = refused 7 alone
 
-abbrev pub callee_of : Callee → Answer ℕ
-callee_of (Entry k) = accepted k
-callee_of NotWhole = refused 7 alone
-callee_of Outside = refused 9 alone
+abbrev pub callee_of : Result ℕ CallError → Answer ℕ
+callee_of (Ok k) = accepted k
+callee_of (Err Part) = refused 7 alone
+callee_of (Err Outside) = refused 9 alone
+
+-- the numbers of the refusals
+abbrev pub index_refusal : NotWhole → ℕ
+index_refusal e = number_in (whole_of (Err e))
+
+abbrev pub callee_refused : CallError → ℕ
+callee_refused e = number_in (callee_of (Err e))

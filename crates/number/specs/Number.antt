@@ -1,13 +1,14 @@
 -- The numbers of charstrings and DICTs (TN5176, section 4, Table 3; TN5177, section 3.2, Table 1; RULES, "Numbers"): a table of data, and its reader.
-use Rattle.std.specs.Prelude.{ℕ, ◌+◌, ◌-◌, ◌*◌, ◌^◌, Bool, true, false, cond, ◌&&◌, List, [], ◌∷◌, ◌++◌, ℤ, pos, neg_ℤ}
-use Rattle.std.specs.Prelude.{length, get_or, leb, ltb, eqb}
+use Rattle.std.specs.Prelude.{Result, Ok, Err, ℕ, ◌+◌, ◌-◌, ◌*◌, ◌^◌, Bool, true, false, cond, ◌&&◌, List, [], ◌∷◌, ◌++◌, ℤ}
+use Rattle.std.specs.Prelude.{pos, neg_ℤ, length, get_or, leb, ltb, eqb}
 use Rattle.std.proofs.Math.IntN.{sub_ℕ}
-use Rattle.number.specs.Answer.{Answer, accepted, refused, alone}
+use Rattle.number.specs.Answer.{Answer, accepted, refused, alone, number_in}
 use Rattle.number.specs.BigEndian.{be_at}
 use Rattle.number.specs.Signed.{signed}
+use Rattle.number.specs.Operand.{operand_as}
 use Rattle.number.specs.declared.Operand.{Operand}
-use Rattle.number.specs.declared.read.NumberRead.{NumberRead}
-use Rattle.number.specs.declared.read.NumberRead.TheVariants.{Read, Lacking, NoNumber}
+use Rattle.number.specs.declared.read.ReadError.{ReadError}
+use Rattle.number.specs.declared.read.ReadError.TheVariants.{Lacking, NoNumber}
 
 -- How a value goes by the first byte b and by the number v that the bytes after it are:
 pub data Value : Type 0 where
@@ -92,7 +93,7 @@ value_by below r b v = neg_ℤ (pos (pair_of r.first b v))
 value_by twos r b v = signed (2 ^ (8 * r.after - 1)) v
 
 abbrev pub operand_by : Row → ℕ → ℕ → Operand
-operand_by r b v = record { fixed = r.fixed; value = value_by r.value r b v }
+operand_by r b v = operand_as r.fixed (value_by r.value r b v)
 
 -- A number that was read: the operand, and how many bytes it is.
 pub record Number : Type 0 where
@@ -111,8 +112,12 @@ number_by (row r) s =
 unfoldable pub read_by : List Row → List ℕ → Answer Number
 read_by rows s = cond (eqb (length s) 0) (refused 4 alone) (number_by (row_of (get_or s 0 0) rows) s)
 
--- what a `NumberRead` says
-abbrev pub number_read : NumberRead → Answer Number
-number_read (Read o n) = accepted (record { operand = o; width = n })
-number_read Lacking = refused 4 alone
-number_read NoNumber = refused 6 alone
+-- what reading a number answers
+abbrev pub number_read : Result (Operand × ℕ) ReadError → Answer Number
+number_read (Ok x) = accepted (record { operand = x.0; width = x.1 })
+number_read (Err Lacking) = refused 4 alone
+number_read (Err NoNumber) = refused 6 alone
+
+-- the number of a refusal
+abbrev pub read_refusal : ReadError → ℕ
+read_refusal e = number_in (number_read (Err e))

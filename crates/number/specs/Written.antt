@@ -1,22 +1,22 @@
 -- Numbers written (RULES, "Numbers"): in the first row of the table that has the operand, and so in the shortest form (`shortest` of RoundTripLaws.antt).
-use Rattle.std.specs.Prelude.{ℕ, ◌≡◌, ◌+◌, ◌-◌, ◌*◌, ◌/◌, ◌%◌, ◌^◌, Bool, true, false, cond, not, ◌&&◌, List, [], ◌∷◌}
-use Rattle.std.specs.Prelude.{ℤ, pos, nat_abs, ◌+ℤ◌}
+use Rattle.std.specs.Prelude.{◌≡◌, Option, Some, None, Result, Ok, Err, ℕ, ◌+◌, ◌-◌, ◌*◌, ◌/◌, ◌%◌, ◌^◌, Bool, true, false}
+use Rattle.std.specs.Prelude.{cond, not}
+use Rattle.std.specs.Prelude.{◌&&◌, List, [], ◌∷◌, ℤ, pos, nat_abs, ◌+ℤ◌}
 use Rattle.std.specs.Int.Signed.{le_z}
-use Rattle.number.specs.Answer.{Answer, accepted, refused, alone, needing, mapped, Outcome, sized, into}
+use Rattle.number.specs.Answer.{Answer, number_in, accepted, refused, alone, needing, mapped, Outcome, sized, into}
 use Rattle.number.specs.BigEndian.{bytes_of}
 use Rattle.number.specs.Signed.{unsigned}
 use Rattle.number.specs.Number.{Value, near, above, below, twos, Row, rows_of}
+use Rattle.number.specs.Operand.{is_fixed, value_in}
+use Rattle.number.specs.declared.Operand.TheVariants.{Integer}
 use Rattle.number.specs.declared.Operand.{Operand}
 use Rattle.number.specs.declared.write.Form.{Form}
-use Rattle.number.specs.declared.write.Coded.{Coded}
-use Rattle.number.specs.declared.write.Coded.TheVariants.{Is, Outside as NoForm}
-use Rattle.number.specs.declared.write.NumberWritten.{NumberWritten}
-use Rattle.number.specs.declared.write.NumberWritten.TheVariants.{Bytes, NoRoom, Outside}
-use Rattle.number.specs.declared.write.IntegerWritten.{IntegerWritten}
-use Rattle.number.specs.declared.write.IntegerWritten.TheVariants.{Bytes as Stored, NoRoom as Full}
+use Rattle.number.specs.declared.write.NoRoom.{NoRoom}
+use Rattle.number.specs.declared.write.WriteError.{WriteError}
+use Rattle.number.specs.declared.write.WriteError.TheVariants.{NoRoom as Short, Outside}
 
 abbrev pub integer : ℤ → Operand
-integer z = record { fixed = false; value = z }
+integer z = Integer z
 
 abbrev pub same : Bool → Bool → Bool
 same true b = b
@@ -24,7 +24,7 @@ same false b = not b
 
 -- whether a row has an operand: of its kind, from its lowest to its highest value
 abbrev pub has : Row → Operand → Bool
-has r o = same r.fixed o.fixed && (le_z r.low o.value && le_z o.value r.high)
+has r o = same r.fixed (is_fixed o) && (le_z r.low (value_in o) && le_z (value_in o) r.high)
 
 -- a first byte, and `after` bytes of a number behind it
 abbrev pub form : ℕ → ℕ → ℕ → Form
@@ -44,7 +44,7 @@ form_by twos r z = form r.first r.after (unsigned (2 ^ (8 * r.after - 1)) z)
 -- the form that a table gives an operand, or 17
 unfoldable pub spell : List Row → Operand → Answer Form
 spell [] o = refused 17 alone
-spell (r ∷ rs) o = cond (has r o) (accepted (form_by r.value r o.value)) (spell rs o)
+spell (r ∷ rs) o = cond (has r o) (accepted (form_by r.value r (value_in o))) (spell rs o)
 
 unfoldable pub bytes : Form → List ℕ
 bytes f = f.first ∷ bytes_of f.after f.rest
@@ -67,16 +67,23 @@ pub record Spellable (dict : Bool) (o : Operand) : Type 0 where
 unfoldable pub write : List Row → Operand → List ℕ → Outcome (Answer ℕ)
 write rows o out = into out (mapped (λ (f : Form). sized (bytes f)) (spell rows o))
 
--- what the enums say
-abbrev pub coded : Coded → Answer Form
-coded (Is f) = accepted f
-coded NoForm = refused 17 alone
+-- what a form and writing answer
+abbrev pub coded : Option Form → Answer Form
+coded (Some f) = accepted f
+coded None = refused 17 alone
 
-abbrev pub number_written : NumberWritten → Answer ℕ
-number_written (Bytes n) = accepted n
-number_written (NoRoom n) = refused 13 (needing n)
-number_written Outside = refused 17 alone
+abbrev pub number_written : Result ℕ WriteError → Answer ℕ
+number_written (Ok n) = accepted n
+number_written (Err (Short n)) = refused 13 (needing n)
+number_written (Err Outside) = refused 17 alone
 
-abbrev pub integer_written : IntegerWritten → Answer ℕ
-integer_written (Stored n) = accepted n
-integer_written (Full n) = refused 13 (needing n)
+abbrev pub integer_written : Result ℕ NoRoom → Answer ℕ
+integer_written (Ok n) = accepted n
+integer_written (Err e) = refused 13 (needing e.0)
+
+-- the numbers of the refusals
+abbrev pub number_refusal : WriteError → ℕ
+number_refusal e = number_in (number_written (Err e))
+
+abbrev pub integer_refusal : NoRoom → ℕ
+integer_refusal e = number_in (integer_written (Err e))
