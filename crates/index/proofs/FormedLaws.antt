@@ -14,7 +14,8 @@ use Rattle.number.specs.BigEndian.{be_at}
 use Rattle.index.specs.Index.{Extent, Place, extent, place_of, place_in, place}
 use Rattle.index.specs.Code.{Full, offset_of, Rising, Passed}
 use Rattle.index.specs.Index.{has}
-use Rattle.index.proofs.IndexLaws.{Shape, none, emptied, full, shape, not_past, emptied_place, full_read, present}
+use Rattle.index.proofs.IndexLaws.{alone_zero, zero_alone, entries_full}
+use Rattle.index.proofs.IndexLaws.{Shape, none, emptied, full, shape, not_past, emptied_place, full_read, zero_offset, descends, passes, present}
 use Rattle.index.specs.Formed.{unless, entries_from, formed_by, formation}
 
 -- ---- the entries from i on, up to n
@@ -90,6 +91,32 @@ module _ (w : ℕ) (s : List ℕ) {n : ℕ} (f : Full w s n) (first : 0 < offset
           let rest = next_entry w s (omega arith) here ∙ before.rest in
           subst (Passed w s n) next (record { within = omega arith; some = omega arith; rest = rest })
 
+-- ---- the pass over the offsets from number i on, before which all entries are present
+
+module _ (w : ℕ) (s : List ℕ) {n : ℕ} (f : Full w s n) where
+  pub first_zero : {a : ℕ} → a ≡ offset_of w s 0 → a ≡ 0 → refused 40 (at_entry 0) ≡ formation w s
+  first_zero e z = bad_entry w s f.head.some (zero_offset w s 0 f e refl f.head.some z) ∙ from_first w s f
+
+  module _ {i a b : ℕ} (before : Passed w s n i) (here : i < n)
+      (first : a ≡ offset_of w s i) (next : b ≡ offset_of w s (i + 1)) where
+    pub passed_descent : {k : ℕ} → k ≡ cond (eqb b 0) 40 41 → b < a → refused k (at_entry i) ≡ formation w s
+    passed_descent e h = rw e (bad_entry w s here (descends w s i f first next here h) ∙ before.rest)
+
+    module _ {l : ℕ} (last : l ≡ offset_of w s n) (order : a ≤ b) where
+      pub passed_data : l < b → refused 42 (at_entry i) ≡ formation w s
+      passed_data h =
+          let some = before.some in
+          bad_entry w s here (passes w s i f first next here (omega arith) order (omega (arith, f.last_pos))) ∙ before.rest
+
+      pub passed_one : b ≤ l → Passed w s n (i + 1)
+      passed_one h =
+          let some = before.some in
+          let there = present w s i f first next here (omega arith) order (omega (arith, f.last_pos)) refl refl in
+          record { within = omega arith; some = omega arith; rest = next_entry w s here there ∙ before.rest }
+
+  pub passed_all : Passed w s n n → accepted n ≡ formation w s
+  passed_all before = none_left w s refl ∙ before.rest
+
 -- ---- what it says
 
 -- The read is accepted with n entries, as many as the count says, and each of them is present.
@@ -99,7 +126,8 @@ pub record WellFormed (w : ℕ) (s : List ℕ) (n : ℕ) : Type 0 where
   pub count : n ≡ be_at s 0 w
   pub entry : (i : ℕ) → i < n → (p : Place) × (accepted p ≡ place w s i)
 
-is_there : (x : Answer Place) {n : ℕ} {f : Answer ℕ} (i : ℕ) → accepted n ≡ unless i x f → ((p : Place) × (accepted p ≡ x)) × (accepted n ≡ f)
+is_there : (x : Answer Place) {n : ℕ} {f : Answer ℕ} (i : ℕ) → accepted n ≡ unless i x f
+    → ((p : Place) × (accepted p ≡ x)) × (accepted n ≡ f)
 unfolding unless
 is_there (accepted p) i e = ((p, refl), e)
 is_there (refused k v) i e = refused_accepted (sym e)
@@ -213,3 +241,11 @@ module _ (w : ℕ) (s : List ℕ) where
   formed_yes {n} f =
       ap accepted (sym (zero-add n)) ∙ there_all 0 n (λ j h l. f.entry j (omega arith))
       ∙ ap (entries_from w s 0) (sym (sub-zero n)) ∙ counted w s f.read f.count
+
+-- ---- the laws by which the functions of src are proved
+
+pub ruleset formed_laws = (not_read, no_entries, no_first, alone_zero, zero_alone, entries_full)
+
+pub ruleset pass_laws = (first_zero, passed_descent, passed_data, passed_one, passed_all)
+
+pub ruleset passed_laws = (none_passed, passed_up)

@@ -9,6 +9,11 @@ use Rattle.std.proofs.Math.Dec.{ltb}
 use borrow.Author.Tests.{lt-ltb, le-ltb, le-leb, lt-leb, eq-eqb, ne_eqb, ltb-false, leb-false, eqb-true, eqb-false}
 use Rattle.number.specs.Answer.{Values, Answer, accepted, refused, alone}
 use Rattle.number.specs.BigEndian.{be_at}
+use Rattle.std.specs.Prelude.{Err}
+use Rattle.index.specs.Index.{entry_read}
+use Rattle.index.specs.declared.entry.EntryError.{EntryError}
+use Rattle.index.specs.declared.entry.EntryError.TheVariants.{Index, Absent}
+use Rattle.index.specs.declared.read.IndexError.TheVariants.{Lacking, BadSize}
 use Rattle.index.specs.Index.{Extent, data_start, offset, by_last, by_size, by_count, extent}
 use Rattle.index.specs.Index.{Place, place_by, place_in, place, bytes_by, part, start_by, part_by}
 use Rattle.index.specs.Index.{has, lies}
@@ -48,6 +53,12 @@ one_of_two false j k = refl
 
 pub size_there : {w : ℕ} {s : List ℕ} {n : ℕ} → Headed w s n → w + 1 ≤ length s
 size_there {w} {s} {n} h = omega (arith, start_is w n (get_or s w 0))
+
+pub headed : {w n z : ℕ} {s : List ℕ} → n ≡ be_at s 0 w → 0 < n → z ≡ get_or s w 0 → 0 < z → z ≤ 4 → data_start w n z ≤ length s
+    → Headed w s n
+headed {w} {n} {z} {s} c p e q r l =
+    let there : data_start w n (get_or s w 0) ≤ length s = rw (sym e) l in
+    record { count = c; some = p; size_pos = omega arith; size_le = omega arith; offsets = there }
 
 -- What a read that is accepted with n entries and t bytes has found.
 pub data Shape (w : ℕ) (s : List ℕ) (n t : ℕ) : Type 0 where
@@ -280,6 +291,9 @@ module _ (w : ℕ) (s : List ℕ) (i : ℕ) where
   unfolding place place_in place_by
   past_count {n} e h = rw (← e, le-leb n i h) (one_of_two (eqb n (be_at s 0 w)) 25 40)
 
+  pub past_behind : {n t k : ℕ} → has n t ≡ extent w s → n ≤ i → k ≡ cond (eqb n (be_at s 0 w)) 25 40 → refused k alone ≡ place w s i
+  past_behind e h why = rw why (past_count e h)
+
   -- an INDEX that a last offset of 0 emptied has no entry at all
   pub emptied_place : {n t : ℕ} → has n t ≡ extent w s → (n ≡ be_at s 0 w → ⊥) → refused 40 alone ≡ place w s i
   unfolding place place_in
@@ -422,3 +436,17 @@ module _ (at : ℕ × ℕ) (s : List ℕ) where
   pub part_none : (k : ℕ) (v : Values) → record { at = at; bytes = [] } ≡ part_by at s (refused k v)
   unfolding part_by start_by bytes_by
   part_none k v = refl
+
+  pub part_failed : (e : EntryError) → record { at = at; bytes = [] } ≡ part_by at s (entry_read (Err e))
+  unfolding part_by start_by bytes_by
+  part_failed (Index Lacking) = refl
+  part_failed (Index BadSize) = refl
+  part_failed (Absent why) = refl
+
+-- ---- the laws by which the functions of src are proved
+
+pub ruleset read_laws = (count_zero, no_size, size_zero, size_big, no_offsets)
+
+pub ruleset between_laws = (by_zero, by_descent, by_passing, by_order)
+
+pub ruleset entry_laws = (not_read, past_behind, count_there, size_there, entries_full, to_place_by)

@@ -10,26 +10,25 @@ use denote.Triple.Clauses.{AtExit}
 use Rattle.number.specs.Answer.{Answer, accepted, refused, entry_or}
 use Rattle.index.specs.Index.{Extent, Place, Part, index_read, entry_read}
 use Rattle.index.specs.Formed.{reason_of, reason_at, formed}
-use Rattle.index.specs.declared.read.IndexRead.{IndexRead}
-use Rattle.index.specs.declared.read.IndexRead.TheVariants.{Read, Lacking, BadSize}
+use Rattle.std.specs.Prelude.{Result, Ok, Err}
+use Rattle.index.specs.declared.read.Extent.{Extent as Reached}
+use Rattle.index.specs.declared.read.IndexError.{IndexError}
+use Rattle.index.specs.declared.read.IndexError.TheVariants.{Lacking, BadSize}
 use Rattle.index.specs.declared.absence.Absence.{Absence}
 use Rattle.index.specs.declared.absence.Absence.TheVariants.{PastCount, ZeroOffset, Descending, PastData}
-use Rattle.index.specs.declared.entry.EntryRead.{EntryRead}
-use Rattle.index.specs.declared.entry.EntryRead.TheVariants.{Entry, Lacking as NoBytes, BadSize as NoSize, Absent}
-use Rattle.index.specs.declared.list.Formed.{Formed}
-use Rattle.index.specs.declared.list.Formed.TheVariants.{Yes, No}
+use Rattle.index.specs.declared.entry.Place.{Place as EntryPlace}
+use Rattle.index.specs.declared.entry.EntryError.{EntryError}
+use Rattle.index.specs.declared.entry.EntryError.TheVariants.{Index, Absent}
 use Rattle.index.specs.declared.list.Flaw.{Flaw}
-use Rattle.index.specs.declared.list.Flaw.TheVariants.{Lacking as Unread, BadSize as Unsized, Entry as BadEntry}
-use Rattle.index.proofs.read.IndexRead.number.Kinds as index_number_kinds
-use Rattle.index.proofs.read.IndexRead.number.Reads as index_number_reads
-use Rattle.index.proofs.entry.EntryRead.number.Kinds as entry_number_kinds
-use Rattle.index.proofs.entry.EntryRead.number.Reads as entry_number_reads
-use Rattle.index.proofs.absence.Absence.number.Kinds as absence_number_kinds
-use Rattle.index.proofs.absence.Absence.number.Reads as absence_number_reads
-use Rattle.index.proofs.list.Flaw.number.Kinds as flaw_number_kinds
-use Rattle.index.proofs.list.Flaw.number.Reads as flaw_number_reads
-use Rattle.index.proofs.list.Formed.number.Kinds as formed_number_kinds
-use Rattle.index.proofs.list.Formed.number.Reads as formed_number_reads
+use Rattle.index.specs.declared.list.Flaw.TheVariants.{Index as Unread, Entry as BadEntry}
+use Rattle.index.proofs.read.IndexErrorRefuse.number.Kinds as index_number_kinds
+use Rattle.index.proofs.read.IndexErrorRefuse.number.Reads as index_number_reads
+use Rattle.index.proofs.entry.EntryErrorRefuse.number.Kinds as entry_number_kinds
+use Rattle.index.proofs.entry.EntryErrorRefuse.number.Reads as entry_number_reads
+use Rattle.index.proofs.absence.AbsenceRefuse.number.Kinds as absence_number_kinds
+use Rattle.index.proofs.absence.AbsenceRefuse.number.Reads as absence_number_reads
+use Rattle.index.proofs.list.FlawRefuse.number.Kinds as flaw_number_kinds
+use Rattle.index.proofs.list.FlawRefuse.number.Reads as flaw_number_reads
 use Rattle.index.proofs.read.read_index.Kinds as index_kinds
 use Rattle.index.proofs.read.read_index.Reads as index_reads
 use Rattle.index.proofs.entry.read_entry.Kinds as entry_kinds
@@ -49,54 +48,54 @@ one say back undo r r' e = sym (undo r) ∙ ap back e ∙ undo r'
 
 -- ---- the ways back, from what an answer says to the answer
 
-index_of : Answer Extent → IndexRead
-index_of (accepted x) = Read x.entries x.taken
-index_of (refused k v) = cond (eqb k 20) Lacking BadSize
+index_of : Answer Extent → Result Reached IndexError
+index_of (accepted x) = Ok (record { entries = x.entries; taken = x.taken })
+index_of (refused k v) = cond (eqb k 20) (Err Lacking) (Err BadSize)
 
-index_undo : (r : IndexRead) → index_of (index_read r) ≡ r
+index_undo : (r : Result Reached IndexError) → index_of (index_read r) ≡ r
 unfolding index_of
-index_undo (Read n t) = refl
-index_undo Lacking = refl
-index_undo BadSize = refl
+index_undo (Ok x) = refl
+index_undo (Err Lacking) = refl
+index_undo (Err BadSize) = refl
 
 absence_of : ℕ → Absence
 absence_of k = cond (eqb k 25) PastCount (cond (eqb k 40) ZeroOffset (cond (eqb k 41) Descending PastData))
 
-entry_of : Answer Place → EntryRead
-entry_of (accepted p) = Entry p.start p.size
-entry_of (refused k v) = cond (eqb k 20) NoBytes (cond (eqb k 21) NoSize (Absent (absence_of k)))
+entry_of : Answer Place → Result EntryPlace EntryError
+entry_of (accepted p) = Ok (record { start = p.start; size = p.size })
+entry_of (refused k v) = Err (cond (eqb k 20) (Index Lacking) (cond (eqb k 21) (Index BadSize) (Absent (absence_of k))))
 
-entry_undo : (r : EntryRead) → entry_of (entry_read r) ≡ r
+entry_undo : (r : Result EntryPlace EntryError) → entry_of (entry_read r) ≡ r
 unfolding entry_of absence_of
-entry_undo (Entry a m) = refl
-entry_undo NoBytes = refl
-entry_undo NoSize = refl
-entry_undo (Absent PastCount) = refl
-entry_undo (Absent ZeroOffset) = refl
-entry_undo (Absent Descending) = refl
-entry_undo (Absent PastData) = refl
+entry_undo (Ok p) = refl
+entry_undo (Err (Index Lacking)) = refl
+entry_undo (Err (Index BadSize)) = refl
+entry_undo (Err (Absent PastCount)) = refl
+entry_undo (Err (Absent ZeroOffset)) = refl
+entry_undo (Err (Absent Descending)) = refl
+entry_undo (Err (Absent PastData)) = refl
 
 -- from a list's refusal and the entry that comes with it
 pub flaw_of : ℕ → ℕ → Flaw
-flaw_of k i = cond (eqb k 20) Unread (cond (eqb k 21) Unsized (BadEntry i (absence_of k)))
+flaw_of k i = cond (eqb k 20) (Unread Lacking) (cond (eqb k 21) (Unread BadSize) (BadEntry i (absence_of k)))
 
 pub flaw_undo : (f : Flaw) → flaw_of (reason_of f) (entry_or 0 (reason_at f)) ≡ f
 unfolding flaw_of absence_of entry_or
-flaw_undo Unread = refl
-flaw_undo Unsized = refl
+flaw_undo (Unread Lacking) = refl
+flaw_undo (Unread BadSize) = refl
 flaw_undo (BadEntry i PastCount) = refl
 flaw_undo (BadEntry i ZeroOffset) = refl
 flaw_undo (BadEntry i Descending) = refl
 flaw_undo (BadEntry i PastData) = refl
 
-formed_of : Answer ℕ → Formed
-formed_of (accepted n) = Yes n
-formed_of (refused k v) = No (flaw_of k (entry_or 0 v))
+formed_of : Answer ℕ → Result ℕ Flaw
+formed_of (accepted n) = Ok n
+formed_of (refused k v) = Err (flaw_of k (entry_or 0 v))
 
-formed_undo : (r : Formed) → formed_of (formed r) ≡ r
+formed_undo : (r : Result ℕ Flaw) → formed_of (formed r) ≡ r
 unfolding formed_of
-formed_undo (Yes n) = refl
-formed_undo (No f) = ap No (flaw_undo f)
+formed_undo (Ok n) = refl
+formed_undo (Err f) = ap Err (flaw_undo f)
 
 -- ---- the theorems
 
@@ -119,11 +118,6 @@ pub flaw_number_once : (κs : Lfts 0) (a : Dens κs flaw_number_kinds.ps) (r r' 
     (x x' : AtExit (ended_of 0 flaw_number_kinds.ps flaw_number_kinds.r) κs)
     → flaw_number_reads.Post κs a r x → flaw_number_reads.Post κs a r' x' → r ≡ r'
 flaw_number_once κs a r r' x x' p p' = p ∙ sym p'
-
-pub formed_number_once : (κs : Lfts 0) (a : Dens κs formed_number_kinds.ps) (r r' : (res_t formed_number_kinds.r κs).Denot)
-    (x x' : AtExit (ended_of 0 formed_number_kinds.ps formed_number_kinds.r) κs)
-    → formed_number_reads.Post κs a r x → formed_number_reads.Post κs a r' x' → r ≡ r'
-formed_number_once κs a r r' x x' p p' = p ∙ sym p'
 
 module _ (κs : Lfts 1) where
   pub read_index_once : (a : Dens κs index_kinds.ps) (r r' : (res_t index_kinds.r κs).Denot) (x x' : AtExit (ended_of 1 index_kinds.ps index_kinds.r) κs)

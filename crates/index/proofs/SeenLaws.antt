@@ -94,3 +94,7 @@ module _ (w : ℕ) (s : List ℕ) (n t z i : ℕ) (e : has n t ≡ extent w s) (
           let kept = subst (λ (l : List ℕ). bytes_by l x ≡ bytes_by (take t s) x) (take-append-drop t s) after in
           ap (λ (l : List ℕ). record { at = start_by at x; bytes = l }) (sym kept)
           ∙ ap (λ (y : Answer Place). record { at = start_by at y; bytes = bytes_by s y }) (place_seen_lem (ltb-true i n b))
+
+-- ---- the laws by which the functions of src are proved
+
+pub ruleset seen_laws = (seen_past, seen_unsized, seen_oversized, seen_short, seen_between)

@@ -1,17 +1,19 @@
 -- An INDEX (TN5176, section 5; RULES, "INDEX"): a count; for a count that is not 0 an offset size, count + 1 offsets of that size, and the data.
 -- Offsets are counted from the byte before the data, so the last one is one more than the data's length.
 -- The count has w bytes: 2 in CFF. Below, s is the bytes, n the count and z the offset size.
-use Rattle.std.specs.Prelude.{ℕ, ◌+◌, ◌-◌, ◌*◌, cond, ◌||◌, List, [], length, get_or, take, drop, leb, ltb, eqb}
-use Rattle.number.specs.Answer.{Answer, accepted, refused, alone}
+use Rattle.std.specs.Prelude.{ℕ, Result, Ok, Err, ◌+◌, ◌-◌, ◌*◌, cond, ◌||◌, List, [], length, get_or, take, drop, leb, ltb, eqb}
+use Rattle.number.specs.Answer.{Answer, accepted, refused, alone, number_in}
 use Rattle.number.specs.BigEndian.{be_at}
 use Rattle.index.specs.declared.width.Width.{Width}
 use Rattle.index.specs.declared.width.Width.TheVariants.{Two, Four}
-use Rattle.index.specs.declared.read.IndexRead.{IndexRead}
-use Rattle.index.specs.declared.read.IndexRead.TheVariants.{Read, Lacking, BadSize}
+use Rattle.index.specs.declared.read.Extent.{Extent as Reached}
+use Rattle.index.specs.declared.read.IndexError.{IndexError}
+use Rattle.index.specs.declared.read.IndexError.TheVariants.{Lacking, BadSize}
 use Rattle.index.specs.declared.absence.Absence.{Absence}
 use Rattle.index.specs.declared.absence.Absence.TheVariants.{PastCount, ZeroOffset, Descending, PastData}
-use Rattle.index.specs.declared.entry.EntryRead.{EntryRead}
-use Rattle.index.specs.declared.entry.EntryRead.TheVariants.{Entry, Lacking as NoBytes, BadSize as NoSize, Absent}
+use Rattle.index.specs.declared.entry.Place.{Place as EntryPlace}
+use Rattle.index.specs.declared.entry.EntryError.{EntryError}
+use Rattle.index.specs.declared.entry.EntryError.TheVariants.{Index, Absent}
 
 -- the widths that the code reads
 abbrev pub width_of : Width → ℕ
@@ -139,10 +141,13 @@ part_seen w at s n z i = part_by at s (place_seen w s n z i)
 
 -- ---- what the readers' answers say
 
-abbrev pub index_read : IndexRead → Answer Extent
-index_read (Read n t) = accepted (record { entries = n; taken = t })
-index_read Lacking = refused 20 alone
-index_read BadSize = refused 21 alone
+abbrev pub index_read : Result Reached IndexError → Answer Extent
+index_read (Ok x) = accepted (record { entries = x.entries; taken = x.taken })
+index_read (Err Lacking) = refused 20 alone
+index_read (Err BadSize) = refused 21 alone
+
+abbrev pub index_refusal : IndexError → ℕ
+index_refusal e = number_in (index_read (Err e))
 
 abbrev pub absence : Absence → ℕ
 absence PastCount = 25
@@ -150,8 +155,16 @@ absence ZeroOffset = 40
 absence Descending = 41
 absence PastData = 42
 
-abbrev pub entry_read : EntryRead → Answer Place
-entry_read (Entry a n) = accepted (record { start = a; size = n })
-entry_read NoBytes = refused 20 alone
-entry_read NoSize = refused 21 alone
-entry_read (Absent why) = refused (absence why) alone
+-- an entry by its offsets
+abbrev pub placed : Result EntryPlace Absence → Answer Place
+placed (Ok p) = accepted (record { start = p.start; size = p.size })
+placed (Err why) = refused (absence why) alone
+
+abbrev pub entry_read : Result EntryPlace EntryError → Answer Place
+entry_read (Ok p) = accepted (record { start = p.start; size = p.size })
+entry_read (Err (Index Lacking)) = refused 20 alone
+entry_read (Err (Index BadSize)) = refused 21 alone
+entry_read (Err (Absent why)) = refused (absence why) alone
+
+abbrev pub entry_refusal : EntryError → ℕ
+entry_refusal e = number_in (entry_read (Err e))
