@@ -1,18 +1,19 @@
 -- The laws of writing an INDEX. Assumes nothing.
 use Rattle.std.specs.Prelude.{◌≡◌, refl, Bool, true, false, cond, List, [], ◌∷◌, ◌++◌, ℕ, ◌+◌, ◌*◌, ◌<◌, ◌≤◌, ◌^◌, leb}
-use Rattle.std.specs.Prelude.{ltb, eqb, get_or, drop, set}
+use Rattle.std.specs.Prelude.{Option, sum, ltb, eqb, get_or, drop, set}
 use Rattle.std.proofs.Common.{sym, ap, ◌∙◌, append-nil, append_assoc, add-one, zero-add, add-mul, one-mul, length-append, drop_of_length-le}
 use native.Mathlib.Omega.{arith}
+use Rattle.std.proofs.lemmas.List.Recursion.{is_sum_by}
 use Rattle.std.proofs.Math.ListN.{length}
 use Rattle.std.proofs.Math.Seq.{drop-cons}
 use borrow.Author.Tests.{lt-ltb, le-ltb, le-leb, lt-leb, eq-eqb, ne_eqb, leb-true, ltb-true, ltb-false, eqb-true, eqb-false}
-use Rattle.number.specs.Answer.{Answer, accepted, refused, alone, needing, sized, into}
+use Rattle.number.specs.Answer.{Answer, accepted, refused, alone, needing, Outcome, leaving, sized, into}
 use Rattle.number.proofs.AnswerLaws.{accepted_same}
-use Rattle.number.specs.BigEndian.{bytes_of, put_at}
-use Rattle.number.proofs.BigEndianLaws.{length_bytes}
+use Rattle.number.specs.BigEndian.{bytes_of, put_at, stored_at}
+use Rattle.number.proofs.BigEndianLaws.{length_bytes, stored_here}
 use Rattle.index.specs.Index.{data_start}
 use Rattle.index.proofs.IndexLaws.{not_refused}
-use Rattle.index.proofs.OffsetLaws.{start_is, start_mono}
+use Rattle.index.proofs.OffsetLaws.{product_small, start_is, start_mono}
 use Rattle.index_writing.specs.Code.{laid, Writable}
 use Rattle.index_writing.proofs.LaidLaws.{laid_append, laid_one, laid_put, laid_first, length_laid}
 use Rattle.index_writing.specs.Writing.{total, size_for, offsets, behind_count, index_bytes, index_of, write_index}
@@ -20,6 +21,10 @@ use Rattle.index_writing.specs.Writing.{reach_of, Plan, plan_of}
 use Rattle.index_writing.specs.Writing.{wrote}
 
 -- ---- the sum of the lengths
+
+pub total_is : (ls : List ℕ) → sum ls ≡ total ls
+unfolding total
+total_is ls = sym (is_sum_by total (λ l. l) refl (λ l ls. refl) ls)
 
 pub total_drop : (ls : List ℕ) (i : ℕ) → i < length ls → total (drop i ls) ≡ get_or ls i 0 + total (drop (i + 1) ls)
 unfolding total
@@ -68,6 +73,10 @@ size_holds s h = go (leb s 255) refl (leb s 65535) refl (leb s 16777215) refl
     go false p false q true r = record { some = omega arith; four = omega arith; holds = omega (arith, leb-true s 16777215 r) }
     go false p false q false r = record { some = omega arith; four = omega arith; holds = omega arith }
 
+-- the size of the last offset, of elements that are short enough
+pub size_le : (ls : List ℕ) → total ls + 1 ≤ 4294967295 → size_for (total ls + 1) ≤ 4
+size_le ls h = (size_holds (total ls + 1) h).four
+
 -- ---- the offsets
 
 pub length_offsets : (z a : ℕ) (ls : List ℕ) → length (offsets z a ls) ≡ (length ls + 1) * z
@@ -98,6 +107,11 @@ module _ (z a : ℕ) (ls : List ℕ) (i : ℕ) where
     pub offset_last : length ls ≤ i → put_at s at z a ≡ laid at (offsets z a (drop i ls)) s
     offset_last h = rw (offsets_last h, laid_put at z a s)
 
+-- what storing one leaves where there is room for it
+pub stored : (s l : List ℕ) (at k v : ℕ) (r : Option Unit) → leaving r l ≡ stored_at s at k v → k ≤ 4 → at + k ≤ length s
+    → l ≡ put_at s at k v
+stored s l at k v r e h n = ap (λ (o : Outcome (Option Unit)). o.left) (e ∙ sym (stored_here s at k v h n _ refl))
+
 -- where offset i stands, and that there is room for it if there is for all
 module _ (w i z at : ℕ) (here : at ≡ w + 1 + i * z) where
   pub offset_past : at + z ≡ w + 1 + (i + 1) * z
@@ -105,6 +119,10 @@ module _ (w i z at : ℕ) (here : at ≡ w + 1 + i * z) where
 
   pub offset_room : {n room : ℕ} → i ≤ n → data_start w n z ≤ room → at + z ≤ room
   offset_room h k = omega (arith, start_is w i z, start_mono w z h)
+
+-- the offsets of so few elements
+pub start_small : (n z : ℕ) → n ≤ 4294967295 → z ≤ 4 → (n + 1) * z ≤ 17179869184
+start_small n z h k = product_small 4294967296 (omega arith) k
 
 -- ---- the whole
 
@@ -116,6 +134,9 @@ module _ (w n z d : ℕ) where
   pub reach_some : (n ≡ 0 → ⊥) → data_start w n z + d ≡ reach_of w n z d
   unfolding reach_of
   reach_some h = rw (ne_eqb n 0 h)
+
+  pub reach_is : (n ≡ 0 → ⊥) → reach_of w n z d ≡ data_start w n z + d
+  reach_is h = sym (reach_some h)
 
   pub reach_count : w ≤ reach_of w n z d
   reach_count = go (eqb n 0) refl
@@ -267,3 +288,15 @@ module _ (w : ℕ) (ls joined out : List ℕ) where
         let b = index_bytes w ls joined in
         let t : wrote (accepted n) l ≡ into out (accepted (sized b)) = rw (e, q, laid_first b out, le-leb (length b) (length out) k) in
         t ∙ to_bytes
+
+-- ---- what the functions cite
+
+pub ruleset outcomes = (length_index, planned, unplanned, too_many, too_long, mismatch, no_room, written)
+
+pub ruleset plans = (size_holds, plan_long, plan_short)
+
+pub ruleset sizes = (size_one, size_two, size_three, size_four)
+
+pub ruleset reaches = (reach_none, reach_some, start_small)
+
+pub ruleset rooms = (size_le, reach_count, reach_is)

@@ -1,13 +1,13 @@
 -- An INDEX written (TN5176, section 5; RULES, "INDEX"), from its elements' lengths and their joined data. The count has w bytes: 2 in CFF.
 -- The last offset is one more than the sum of the lengths: the rules' S.
-use Rattle.std.specs.Prelude.{ℕ, ◌+◌, ◌*◌, ◌^◌, cond, List, [], ◌∷◌, ◌++◌, length, get_or, take, drop, leb, ltb, eqb}
-use Rattle.number.specs.Answer.{Answer, accepted, refused, alone, needing, mapped, Outcome, leaving, sized, into}
+use Rattle.std.specs.Prelude.{ℕ, Result, Ok, Err, ◌+◌, ◌*◌, ◌^◌, cond, List, [], ◌∷◌, ◌++◌, length, get_or, take, drop, leb, ltb, eqb}
+use Rattle.number.specs.Answer.{Answer, accepted, refused, alone, needing, number_in, mapped, Outcome, leaving, sized, into}
 use Rattle.number.specs.BigEndian.{bytes_of}
 use Rattle.index.specs.Index.{data_start}
-use Rattle.index_writing.specs.declared.IndexPlan.{IndexPlan}
-use Rattle.index_writing.specs.declared.IndexPlan.TheVariants.{Of, TooLong as Over}
-use Rattle.index_writing.specs.declared.IndexWritten.{IndexWritten}
-use Rattle.index_writing.specs.declared.IndexWritten.TheVariants.{Bytes, NoRoom, TooMany, TooLong, Mismatch}
+use Rattle.index_writing.specs.declared.Plan.{Plan as Layout}
+use Rattle.index_writing.specs.declared.TooLong.{TooLong}
+use Rattle.index_writing.specs.declared.WriteError.{WriteError}
+use Rattle.index_writing.specs.declared.WriteError.TheVariants.{TooMany, TooLong as Over, Mismatch, NoRoom}
 
 -- ---- the elements
 
@@ -57,13 +57,16 @@ write_index w lengths joined out = into out (mapped sized (index_of w lengths jo
 abbrev pub wrote : Answer ℕ → List ℕ → Outcome (Answer ℕ)
 wrote a l = leaving a l
 
--- what the writer's enum says
-abbrev pub index_written : IndexWritten → Answer ℕ
-index_written (Bytes n) = accepted n
-index_written (NoRoom n) = refused 13 (needing n)
-index_written TooMany = refused 22 alone
-index_written TooLong = refused 23 alone
-index_written Mismatch = refused 24 alone
+-- what the writer's result says
+abbrev pub index_written : Result ℕ WriteError → Answer ℕ
+index_written (Ok n) = accepted n
+index_written (Err TooMany) = refused 22 alone
+index_written (Err Over) = refused 23 alone
+index_written (Err Mismatch) = refused 24 alone
+index_written (Err (NoRoom n)) = refused 13 (needing n)
+
+abbrev pub write_refusal : WriteError → ℕ
+write_refusal e = number_in (index_written (Err e))
 
 -- ---- how an INDEX is laid out
 
@@ -82,6 +85,9 @@ plan_of w n d =
     let z = size_for (d + 1) in
     cond (ltb 4294967295 (d + 1)) (refused 23 alone) (accepted (record { size = z; reach = reach_of w n z d }))
 
-abbrev pub index_plan : IndexPlan → Answer Plan
-index_plan (Of z n) = accepted (record { size = z; reach = n })
-index_plan Over = refused 23 alone
+abbrev pub index_plan : Result Layout TooLong → Answer Plan
+index_plan (Ok p) = accepted (record { size = p.size; reach = p.needed })
+index_plan (Err e) = refused 23 alone
+
+abbrev pub plan_refusal : TooLong → ℕ
+plan_refusal e = number_in (index_plan (Err e))
