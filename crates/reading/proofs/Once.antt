@@ -10,20 +10,23 @@ use Rattle.index.specs.declared.width.Width.{Width}
 use Rattle.index.specs.declared.width.Width.TheVariants.{Two, Four}
 use Rattle.index.specs.Index.{width_of}
 use Rattle.reading.specs.Rules.{Rules, byte_kind, kind_by, meant}
-use Rattle.reading.specs.declared.Rules.{Rules as CodeRules}
-use Rattle.reading.specs.declared.Operator.{Operator}
-use Rattle.reading.specs.declared.Kind.{Kind}
-use Rattle.reading.specs.declared.Kind.TheVariants.{Stem, Clear, Mask, Call, Return, End, Unknown}
-use Rattle.reading.proofs.number_of.Kinds as number_kinds
-use Rattle.reading.proofs.number_of.Reads as number_reads
-use Rattle.reading.proofs.Stopped.number.Kinds as stop_kinds
-use Rattle.reading.proofs.Stopped.number.Reads as stop_reads
-use Rattle.reading.proofs.Flattened.number.Kinds as answer_kinds
-use Rattle.reading.proofs.Flattened.number.Reads as answer_reads
-use Rattle.reading.proofs.FlattenedMarked.number.Kinds as marked_kinds
-use Rattle.reading.proofs.FlattenedMarked.number.Reads as marked_reads
-use Rattle.reading.proofs.rules_of.Kinds as rules_kinds
-use Rattle.reading.proofs.rules_of.Reads as rules_reads
+use Rattle.reading.specs.declared.rules.Rules.{Rules as CodeRules}
+use Rattle.reading.specs.declared.operator.Operator.{Operator}
+use Rattle.reading.specs.declared.operator.Operator.TheVariants.{OneByte}
+use Rattle.reading.specs.declared.operator.Kind.{Kind}
+use Rattle.reading.specs.declared.operator.Kind.TheVariants.{Stem, Clear, Mask, Call, Return, End, Unknown}
+use Rattle.reading.proofs.refusal.RefusalRefuse.number.Kinds as number_kinds
+use Rattle.reading.proofs.refusal.RefusalRefuse.number.Reads as number_reads
+use Rattle.reading.proofs.refusal.StoppedRefuse.number.Kinds as stop_kinds
+use Rattle.reading.proofs.refusal.StoppedRefuse.number.Reads as stop_reads
+use Rattle.reading.proofs.answer.FlattenErrorRefuse.number.Kinds as flatten_kinds
+use Rattle.reading.proofs.answer.FlattenErrorRefuse.number.Reads as flatten_reads
+use Rattle.reading.proofs.answer.MarkErrorRefuse.number.Kinds as mark_kinds
+use Rattle.reading.proofs.answer.MarkErrorRefuse.number.Reads as mark_reads
+use Rattle.reading.proofs.answer.MarkErrorFromFlattenError.from.Kinds as from_kinds
+use Rattle.reading.proofs.answer.MarkErrorFromFlattenError.from.Reads as from_reads
+use Rattle.reading.proofs.rules.RulesFromProfile.from.Kinds as rules_kinds
+use Rattle.reading.proofs.rules.RulesFromProfile.from.Reads as rules_reads
 
 pub number_of_once : (κs : Lfts 0) (a : Dens κs number_kinds.ps) (r r' : (res_t number_kinds.r κs).Denot)
     (x x' : AtExit (ended_of 0 number_kinds.ps number_kinds.r) κs) → number_reads.Post κs a r x → number_reads.Post κs a r' x' → r ≡ r'
@@ -33,13 +36,17 @@ pub stop_number_once : (κs : Lfts 0) (a : Dens κs stop_kinds.ps) (r r' : (res_
     (x x' : AtExit (ended_of 0 stop_kinds.ps stop_kinds.r) κs) → stop_reads.Post κs a r x → stop_reads.Post κs a r' x' → r ≡ r'
 stop_number_once κs a r r' x x' p p' = p ∙ sym p'
 
-pub answer_number_once : (κs : Lfts 0) (a : Dens κs answer_kinds.ps) (r r' : (res_t answer_kinds.r κs).Denot)
-    (x x' : AtExit (ended_of 0 answer_kinds.ps answer_kinds.r) κs) → answer_reads.Post κs a r x → answer_reads.Post κs a r' x' → r ≡ r'
-answer_number_once κs a r r' x x' p p' = p ∙ sym p'
+pub flatten_number_once : (κs : Lfts 0) (a : Dens κs flatten_kinds.ps) (r r' : (res_t flatten_kinds.r κs).Denot)
+    (x x' : AtExit (ended_of 0 flatten_kinds.ps flatten_kinds.r) κs) → flatten_reads.Post κs a r x → flatten_reads.Post κs a r' x' → r ≡ r'
+flatten_number_once κs a r r' x x' p p' = p ∙ sym p'
 
-pub marked_number_once : (κs : Lfts 0) (a : Dens κs marked_kinds.ps) (r r' : (res_t marked_kinds.r κs).Denot)
-    (x x' : AtExit (ended_of 0 marked_kinds.ps marked_kinds.r) κs) → marked_reads.Post κs a r x → marked_reads.Post κs a r' x' → r ≡ r'
-marked_number_once κs a r r' x x' p p' = p ∙ sym p'
+pub mark_number_once : (κs : Lfts 0) (a : Dens κs mark_kinds.ps) (r r' : (res_t mark_kinds.r κs).Denot)
+    (x x' : AtExit (ended_of 0 mark_kinds.ps mark_kinds.r) κs) → mark_reads.Post κs a r x → mark_reads.Post κs a r' x' → r ≡ r'
+mark_number_once κs a r r' x x' p p' = p ∙ sym p'
+
+pub mark_from_once : (κs : Lfts 0) (a : Dens κs from_kinds.ps) (r r' : (res_t from_kinds.r κs).Denot)
+    (x x' : AtExit (ended_of 0 from_kinds.ps from_kinds.r) κs) → from_reads.Post κs a r x → from_reads.Post κs a r' x' → r ≡ r'
+mark_from_once κs a r r' x x' p p' = p ∙ sym p'
 
 -- ---- from the rules back to the record that stands for them
 
@@ -62,7 +69,7 @@ ends_by End = false
 ends_by Unknown = false
 
 ends_back : (Operator → Kind) → Bool
-ends_back kind = ends_by (kind (record { escaped = false; byte = 11 }))
+ends_back kind = ends_by (kind (OneByte 11))
 
 ends_undo : (t : Bool) → ends_back (kind_by t) ≡ t
 unfolding ends_by ends_back kind_by byte_kind

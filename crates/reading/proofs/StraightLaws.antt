@@ -1,5 +1,5 @@
 -- The bytes of valid items, read straight through and read as a charstring, give the items back. Assumes nothing.
-use Rattle.std.specs.Prelude.{◌≡◌, Bool, true, cond, drop}
+use Rattle.std.specs.Prelude.{◌≡◌, drop}
 use Rattle.std.proofs.Math.Path.{refl, sym, ap, subst}
 use Rattle.std.proofs.Common.{◌∙◌, add-zero}
 use Rattle.std.proofs.Math.Bool.{false}
@@ -40,9 +40,10 @@ use Rattle.reading.specs.Reading.{
 use Rattle.reading.specs.Flat.{operator_bytes, spelled, flat, Straight, is_mask, shown_behind, behind, straight_from, straight}
 use Rattle.reading.proofs.StepLaws.{Goes, pushes, stems, clears, masks, ends, token_goes}
 use Rattle.reading.specs.Valid.{Valid, none, number_behind, stem_behind, clear_behind, mask_behind, Whole, open_ended, end_behind, Cuttable}
-use Rattle.reading.specs.declared.Operator.{Operator}
-use Rattle.reading.specs.declared.Kind.{Kind}
-use Rattle.reading.specs.declared.Kind.TheVariants.{Stem, Clear, Mask, End}
+use Rattle.reading.specs.declared.operator.Operator.{Operator}
+use Rattle.reading.specs.declared.operator.Operator.TheVariants.{OneByte, TwoByte}
+use Rattle.reading.specs.declared.operator.Kind.{Kind}
+use Rattle.reading.specs.declared.operator.Kind.TheVariants.{Stem, Clear, Mask, End}
 
 -- ---- one item's bytes, and whatever follows
 
@@ -51,11 +52,8 @@ unfolding cut cut_by
 number_cut o p z = rw (read_spelling false o p z) (ap (token (number o)) (drop_at (spelling charstring_rows o) z _ refl))
 
 operator_some : (p : Operator) → 0 < length (operator_bytes p)
-operator_some p = go p.escaped
-  where
-    go : (t : Bool) → 0 < length (cond t (12 ∷ p.byte ∷ []) (p.byte ∷ []))
-    go true = omega arith
-    go false = omega arith
+operator_some (OneByte b) = omega arith
+operator_some (TwoByte b) = omega arith
 
 -- ---- straight through
 

@@ -2,7 +2,7 @@
 -- This is the invariant behind demand 3. Assumes nothing.
 use Rattle.std.proofs.Math.Path.{◌≡◌, ap}
 use Rattle.std.specs.Prelude.{refl, true, false, ℕ, ◌<◌, ◌≤◌, take, drop}
-use Rattle.std.proofs.Common.{sym, subst, ◌∙◌, arith, length-take-le}
+use Rattle.std.proofs.Common.{sym, subst, ◌∙◌, length-take-le}
 use mathlib.Core.List.{List, [], ◌∷◌}
 use Rattle.std.proofs.Math.ListN.{length}
 use Rattle.number.specs.Written.{Spellable}
@@ -18,8 +18,8 @@ use Rattle.reading.specs.Valid.{Cuttable, Valid, none, number_behind, stem_behin
 use Rattle.reading.specs.Valid.{Taken, Good, Ended, Ends, ByteLists}
 use Rattle.reading.proofs.StepLaws.{declines, goes, Goes, pushes, stems, clears, masks, enters, returns, ends, Stepped, spent, begun, token_is}
 use Rattle.reading.proofs.RunLaws.{Led, Kept, kept}
-use Rattle.reading.specs.declared.Operator.{Operator}
-use Rattle.reading.specs.declared.Kind.TheVariants.{Stem, Clear, Mask, End}
+use Rattle.reading.specs.declared.operator.Operator.{Operator}
+use Rattle.reading.specs.declared.operator.Kind.TheVariants.{Stem, Clear, Mask, End}
 
 -- an item is shown
 module _ (rules : Rules) (s : State) (g : Good rules s) where
@@ -70,13 +70,13 @@ module _ (rules : Rules) (s : State) (g : Good rules s) where
 module _ (rules : Rules) (x : Left) (c : Entering) (ops : List Operand) (h : x.operands ≡ c.index ∷ ops) where
   pub index_is_last : (f : List Item) → left_by rules f ≡ x → ends_in_operand f ≡ true → f ≡ operand c.index ∷ drop 1 f
   unfolding left_by leaves ends_in_operand
-  index_is_last [] e t = let z : ◌≡◌ {A = ℕ} 0 1 = cc in absurd (omega arith)
+  index_is_last [] e t = cc
   index_is_last (operand o ∷ f) e t =
       let top : o ∷ (left_by rules f).operands ≡ c.index ∷ ops = ap (λ (y : Left). y.operands) e ∙ h in
       let same : o ≡ c.index = cc in
       ap (λ (y : Operand). operand y ∷ f) same
-  index_is_last (bare p ∷ f) e t = let z : ◌≡◌ {A = ℕ} 0 1 = cc in absurd (omega arith)
-  index_is_last (masked p m ∷ f) e t = let z : ◌≡◌ {A = ℕ} 0 1 = cc in absurd (omega arith)
+  index_is_last (bare p ∷ f) e t = cc
+  index_is_last (masked p m ∷ f) e t = cc
 
 left_popped : (rules : Rules) (o : Operand) (f : List Item) → left_by rules f ≡ popped (left_by rules (operand o ∷ f))
 unfolding left_by leaves

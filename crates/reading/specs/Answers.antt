@@ -1,23 +1,24 @@
 -- What flattening answers and leaves (RULES, "How a charstring runs", "Refusals").
-use Rattle.std.specs.Prelude.{ℕ, cond, List, leb, length}
-use Rattle.number.specs.Answer.{Values, Answer, accepted, refused, alone, at_token, needing_at, because, mapped, Outcome, leaving, Ready, into}
+use Rattle.std.specs.Prelude.{ℕ, Option, Result, Ok, Err, cond, List, leb, length}
+use Rattle.number.specs.Answer.{Values, Answer, accepted, refused, alone, at_token, needing_at, because, number_in, mapped, Outcome, leaving, Ready, into}
+use Rattle.number.specs.declared.Operand.{Operand}
 use Rattle.index.specs.Formed.{formation, reason_of, reason_at}
 use Rattle.reading.specs.Rules.{Rules}
 use Rattle.reading.specs.Reading.{Ending, back, ended, stopped, Run, struck, tokens, original}
 use Rattle.reading.specs.Flat.{flat}
-use Rattle.reading.specs.declared.Refusal.{Refusal}
-use Rattle.reading.specs.declared.Refusal.TheVariants.{BudgetSpent, BytesLacking, TooManyOperands, UnknownOperator}
-use Rattle.reading.specs.declared.Refusal.TheVariants.{NoIndex, IndexNotLast, NoEntry, TooDeep, TooManyHints, Composite, OperandsAtMask, NoEndchar}
-use Rattle.reading.specs.declared.Advance.{Advance}
-use Rattle.reading.specs.declared.Stopped.{Stopped}
-use Rattle.reading.specs.declared.Stopped.TheVariants.{At, Alone}
-use Rattle.reading.specs.declared.Flattened.{Flattened}
-use Rattle.reading.specs.declared.Flattened.TheVariants.{Accepted, BadGlobals, BadLocals, Refused, NoRoom}
+use Rattle.reading.specs.declared.refusal.Refusal.{Refusal}
+use Rattle.reading.specs.declared.refusal.Refusal.TheVariants.{BudgetSpent, BytesLacking, TooManyOperands, UnknownOperator}
+use Rattle.reading.specs.declared.refusal.Refusal.TheVariants.{NoIndex, IndexNotLast, NoEntry, TooDeep, TooManyHints, Composite, OperandsAtMask, NoEndchar}
+use Rattle.reading.specs.declared.refusal.Stopped.{Stopped}
+use Rattle.reading.specs.declared.refusal.Stopped.TheVariants.{At, Alone}
+use Rattle.reading.specs.declared.answer.Flat.{Flat}
+use Rattle.reading.specs.declared.answer.FlattenError.{FlattenError}
+use Rattle.reading.specs.declared.answer.FlattenError.TheVariants.{BadGlobals, BadLocals, Refused, NoRoom}
 
 pub record Flattening : Type 0 where
   pub size : ℕ
   pub tokens : ℕ
-  pub advance : Advance
+  pub advance : Option Operand
 
 -- ---- the answer of a run, and what it leaves in the room
 
@@ -97,9 +98,13 @@ abbrev pub stop_values : Stopped → Values
 stop_values (At k t) = at_token t
 stop_values (Alone k) = alone
 
-abbrev pub flattened : Flattened → Answer Flattening
-flattened (Accepted n t w) = accepted (record { size = n; tokens = t; advance = w })
-flattened (BadGlobals f) = refused 1 (because (reason_of f) (reason_at f))
-flattened (BadLocals f) = refused 2 (because (reason_of f) (reason_at f))
-flattened (Refused w) = refused (stop_number w) (stop_values w)
-flattened (NoRoom n t) = refused 13 (needing_at n t)
+abbrev pub flattened : Result Flat FlattenError → Answer Flattening
+flattened (Ok x) = accepted (record { size = x.length; tokens = x.tokens; advance = x.advance })
+flattened (Err (BadGlobals f)) = refused 1 (because (reason_of f) (reason_at f))
+flattened (Err (BadLocals f)) = refused 2 (because (reason_of f) (reason_at f))
+flattened (Err (Refused w)) = refused (stop_number w) (stop_values w)
+flattened (Err (NoRoom n t)) = refused 13 (needing_at n t)
+
+-- the number of a refusal
+abbrev pub flatten_refusal : FlattenError → ℕ
+flatten_refusal e = number_in (flattened (Err e))

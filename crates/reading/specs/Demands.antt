@@ -10,9 +10,9 @@ use Rattle.reading.specs.Flat.{straight}
 use Rattle.reading.specs.Answers.{Flattening, flattening}
 use Rattle.reading.specs.Masks.{StemsFirst, ByNote, CleanMasks}
 use Rattle.reading.specs.Widths.{noted}
-use Rattle.reading.specs.declared.Operator.{Operator}
-use Rattle.reading.specs.declared.Kind.{Kind}
-use Rattle.reading.specs.declared.Kind.TheVariants.{Stem, Clear, Mask, Call, Return, End, Unknown}
+use Rattle.reading.specs.declared.operator.Operator.{Operator}
+use Rattle.reading.specs.declared.operator.Kind.{Kind}
+use Rattle.reading.specs.declared.operator.Kind.TheVariants.{Stem, Clear, Mask, Call, Return, End, Unknown}
 
 -- ---- what is not among the items
 

@@ -13,10 +13,10 @@ use Rattle.reading.specs.Answers.{Flattening, comes_with, flattening}
 use Rattle.reading.specs.Entered.{entered_by}
 use Rattle.reading.specs.Explained.{explanation, call_words, explaining}
 use Rattle.reading.specs.Demands.{RunRefusal}
-use Rattle.reading.specs.declared.Operator.{Operator}
-use Rattle.reading.specs.declared.Which.{Which}
-use Rattle.reading.specs.declared.Which.TheVariants.{Local, Global}
-use Rattle.reading.specs.declared.Kind.TheVariants.{Call}
+use Rattle.reading.specs.declared.operator.Operator.{Operator}
+use Rattle.reading.specs.declared.operator.Which.{Which}
+use Rattle.reading.specs.declared.operator.Which.TheVariants.{Local, Global}
+use Rattle.reading.specs.declared.operator.Kind.TheVariants.{Call}
 
 -- ---- the calls lead from the charstring to the refused token
 

@@ -1,5 +1,5 @@
 -- Worked examples of why a charstring is refused (RULES, "Why a charstring is refused"), proved as one list.
-use Rattle.std.specs.Prelude.{◌≡◌, refl, false, List, [], ◌∷◌, ◌++◌, ℕ, zero, suc, ◌+◌, ◌/◌, length, replicate}
+use Rattle.std.specs.Prelude.{◌≡◌, refl, None, false, List, [], ◌∷◌, ◌++◌, ℕ, zero, suc, ◌+◌, ◌/◌, length, replicate}
 use Rattle.number.specs.Answer.{Answer, accepted, refused, alone, at_token, at_entry, because}
 use Rattle.number.specs.BigEndian.{be_at, bytes_of}
 use Rattle.number.specs.Signed.{signed, unsigned}
@@ -18,7 +18,6 @@ use Rattle.reading.specs.Flat.{spelled, flat}
 use Rattle.reading.specs.Answers.{Flattening, ready_by, judged, verdict, list_gate}
 use Rattle.reading.specs.Explained.{open_by, explanation, call_words, words_left, explaining}
 use Rattle.reading.specs.Rows.{none, L, only, behind_mask}
-use Rattle.reading.specs.declared.Advance.TheVariants.{Default}
 
 -- ---- a row: what is lent, the answer, how many calls are open, and the words as left
 
@@ -130,7 +129,7 @@ places =
 
 -- an accepted answer without an advance width
 abbrev takes : ℕ → ℕ → Answer Flattening
-takes n t = accepted (record { size = n; tokens = t; advance = Default })
+takes n t = accepted (record { size = n; tokens = t; advance = None })
 
 -- a mask fixes the length, and then an operand waits at another
 abbrev late15 : List ℕ

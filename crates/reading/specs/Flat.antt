@@ -5,14 +5,16 @@ use Rattle.number.specs.Written.{spelling}
 use Rattle.reading.specs.Rules.{Rules}
 use Rattle.reading.specs.Tokens.{number, operator, Cut, token, lacking, cut}
 use Rattle.reading.specs.Items.{Item, operand, bare, masked, at_mask, left_by}
-use Rattle.reading.specs.declared.Operator.{Operator}
-use Rattle.reading.specs.declared.Kind.{Kind}
-use Rattle.reading.specs.declared.Kind.TheVariants.{Stem, Clear, Mask, Call, Return, End, Unknown}
+use Rattle.reading.specs.declared.operator.Operator.{Operator}
+use Rattle.reading.specs.declared.operator.Operator.TheVariants.{OneByte, TwoByte}
+use Rattle.reading.specs.declared.operator.Kind.{Kind}
+use Rattle.reading.specs.declared.operator.Kind.TheVariants.{Stem, Clear, Mask, Call, Return, End, Unknown}
 
 -- ---- items spelled
 
 abbrev pub operator_bytes : Operator → List ℕ
-operator_bytes p = cond p.escaped (12 ∷ p.byte ∷ []) (p.byte ∷ [])
+operator_bytes (OneByte b) = b ∷ []
+operator_bytes (TwoByte b) = 12 ∷ b ∷ []
 
 -- an integer in its shortest form, a Fixed in five bytes
 unfoldable pub spelled : Item → List ℕ

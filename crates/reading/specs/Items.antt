@@ -1,15 +1,14 @@
 -- Items, which a flat string is made of, and what they leave behind: the operands that wait, the hints, the mask length and the advance
 -- width (RULES, "How a charstring runs", "The advance width"; TN5177, sections 4 and 4.3).
 use Rattle.std.specs.Prelude.{ℕ, ◌+◌, ◌/◌, ◌%◌, Bool, true, false, cond, ◌&&◌, List, [], ◌∷◌, length, drop, eqb, ltb}
+use Rattle.std.specs.Prelude.{Option, Some, None}
 use Rattle.number.specs.declared.Operand.{Operand}
 use Rattle.reading.specs.Rules.{Rules}
-use Rattle.reading.specs.declared.Operator.{Operator}
-use Rattle.reading.specs.declared.Takes.{Takes}
-use Rattle.reading.specs.declared.Takes.TheVariants.{Pairs, UpTo, All}
-use Rattle.reading.specs.declared.Advance.{Advance}
-use Rattle.reading.specs.declared.Advance.TheVariants.{Default, Given}
-use Rattle.reading.specs.declared.Kind.{Kind}
-use Rattle.reading.specs.declared.Kind.TheVariants.{Stem, Clear, Mask, Call, Return, End, Unknown}
+use Rattle.reading.specs.declared.operator.Operator.{Operator}
+use Rattle.reading.specs.declared.operator.Takes.{Takes}
+use Rattle.reading.specs.declared.operator.Takes.TheVariants.{Pairs, UpTo, All}
+use Rattle.reading.specs.declared.operator.Kind.{Kind}
+use Rattle.reading.specs.declared.operator.Kind.TheVariants.{Stem, Clear, Mask, Call, Return, End, Unknown}
 
 -- an operand, an operator, or a mask operator with its bytes
 pub data Item : Type 0 where
@@ -22,10 +21,10 @@ pub record Left : Type 0 where
   pub hints : ℕ
   pub mask : ℕ  -- the mask length, which is 0 until a mask fixes it
   pub settled : Bool  -- whether an operator that clears the stack was there, which settles the advance width
-  pub advance : Advance
+  pub advance : Option Operand
 
 abbrev pub nothing : Left
-nothing = record { operands = []; hints = 0; mask = 0; settled = false; advance = Default }
+nothing = record { operands = []; hints = 0; mask = 0; settled = false; advance = None }
 
 -- ---- operands, hints and masks
 
@@ -68,13 +67,13 @@ spare (UpTo k) n = ltb k n
 spare All n = false
 
 -- the bottom one of the operands that wait
-unfoldable pub bottom : List Operand → Advance
-bottom [] = Default
-bottom (o ∷ []) = Given o
+unfoldable pub bottom : List Operand → Option Operand
+bottom [] = None
+bottom (o ∷ []) = Some o
 bottom (o ∷ p ∷ ops) = bottom (p ∷ ops)
 
-abbrev pub said : Takes → List Operand → Advance
-said takes ops = cond (spare takes (length ops)) (bottom ops) Default
+abbrev pub said : Takes → List Operand → Option Operand
+said takes ops = cond (spare takes (length ops)) (bottom ops) None
 
 -- what y is behind an operator that found x: the first one settles the width, and a later one lets it be
 abbrev pub settling : Takes → Left → Left → Left
@@ -111,5 +110,5 @@ left_by rules [] = nothing
 left_by rules (i ∷ f) = leaves rules i (left_by rules f)
 
 -- the advance width that they say
-abbrev pub advance_in : Rules → List Item → Advance
+abbrev pub advance_in : Rules → List Item → Option Operand
 advance_in rules f = (left_by rules f).advance

@@ -2,8 +2,8 @@
 use Rattle.std.specs.Prelude.{ℕ, List}
 use Rattle.number.specs.Answer.{Answer, accepted, refused}
 use Rattle.index.specs.Index.{Extent, Place, extent, place, part}
-use Rattle.reading.specs.declared.Which.{Which}
-use Rattle.reading.specs.declared.Which.TheVariants.{Local, Global}
+use Rattle.reading.specs.declared.operator.Which.{Which}
+use Rattle.reading.specs.declared.operator.Which.TheVariants.{Local, Global}
 
 pub data Entry (A : Type 0) : Type 0 where
   present : A → Entry A

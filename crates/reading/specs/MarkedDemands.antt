@@ -10,7 +10,7 @@ use Rattle.reading.specs.Lists.{chosen, lists_of}
 use Rattle.reading.specs.Reading.{original}
 use Rattle.reading.specs.Answers.{Flattening, flattening}
 use Rattle.reading.specs.Entered.{entered_by, row_size, Lent, Marked, as_lent, rows_fit, marking}
-use Rattle.reading.specs.declared.Which.{Which}
+use Rattle.reading.specs.declared.operator.Which.{Which}
 
 -- ---- two pairs of lists, whose counts have w bytes
 

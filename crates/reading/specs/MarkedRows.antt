@@ -18,7 +18,7 @@ use Rattle.reading.specs.Flat.{spelled, flat}
 use Rattle.reading.specs.Answers.{ready_by, judged, outcome, list_gate}
 use Rattle.reading.specs.Entered.{entered, bits, bytes_from, row, row_of, Lent, row_left, Marked, marked_by, marking}
 use Rattle.reading.specs.Rows.{Expected, gives, refuses, expected_by, none, L, only, shallow, behind_mask}
-use Rattle.reading.specs.declared.Which.TheVariants.{Local, Global}
+use Rattle.reading.specs.declared.operator.Which.TheVariants.{Local, Global}
 
 -- ---- a row: what is lent, the answer, and both rows as left
 

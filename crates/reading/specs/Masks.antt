@@ -3,8 +3,8 @@
 use Rattle.std.specs.Prelude.{ℕ, suc, ◌+◌, ◌/◌, ◌≡◌, Bool, true, false, cond, List, [], ◌∷◌, length, eqb}
 use Rattle.reading.specs.Rules.{Rules}
 use Rattle.reading.specs.Items.{Item, operand, bare, masked}
-use Rattle.reading.specs.declared.Kind.{Kind}
-use Rattle.reading.specs.declared.Kind.TheVariants.{Stem, Clear, Mask, Call, Return, End, Unknown}
+use Rattle.reading.specs.declared.operator.Kind.{Kind}
+use Rattle.reading.specs.declared.operator.Kind.TheVariants.{Stem, Clear, Mask, Call, Return, End, Unknown}
 
 abbrev pub is_stem : Kind → Bool
 is_stem Stem = true

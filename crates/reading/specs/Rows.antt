@@ -1,6 +1,7 @@
 -- The starred rows (RULES, "Examples"), proved as one list; and lists of ours: what those rows miss, refusals that compete,
 -- masks and the end in strict, a third rule set.
 use Rattle.std.specs.Prelude.{◌≡◌, refl, List, [], ◌∷◌, ◌++◌, Bool, true, false, ℕ, ◌+◌, ℤ, pos, negsuc, length, drop, replicate}
+use Rattle.std.specs.Prelude.{Some, None}
 use Rattle.number.specs.Answer.{Values, alone, at_token, needing_at, at_entry, because, Answer, accepted, refused, Outcome, leaving, into}
 use Rattle.number.specs.BigEndian.{be_at, bytes_of}
 use Rattle.number.specs.Signed.{signed, unsigned}
@@ -11,9 +12,10 @@ use Rattle.index.specs.Index.{offset, by_last, by_size, by_count, extent, place_
 use Rattle.index.specs.Formed.{unless, entries_from, formed_by, formation}
 use Rattle.index.specs.declared.width.Width.TheVariants.{Four}
 use Rattle.reading.specs.Rules.{Rules, byte_kind, escaped_kind, kind_by, type2, byte_takes, type2_takes, plain, strict, meant}
-use Rattle.reading.specs.declared.Advance.TheVariants.{Default, Given}
+use Rattle.number.specs.Operand.{operand_as}
 use Rattle.number.specs.declared.Operand.{Operand}
-use Rattle.reading.specs.declared.Rules.{Rules as CodeRules}
+use Rattle.number.specs.declared.Operand.TheVariants.{Integer}
+use Rattle.reading.specs.declared.rules.Rules.{Rules as CodeRules}
 use Rattle.reading.specs.Lists.{absent as absent_entry, count_in, entry_by, subrs_of, lists_of}
 use Rattle.reading.specs.Tokens.{escaped_at, operator_at, cut_by, cut}
 use Rattle.reading.specs.Items.{bottom, by_kind, leaves}
@@ -42,8 +44,8 @@ abbrev pub lent : Row → List ℕ
 lent r = replicate r.room 0xA5
 
 unfoldable pub expected_by : List ℕ → Expected → Outcome (Answer Flattening)
-expected_by out (gives f t) = leaving (accepted (record { size = length f; tokens = t; advance = Default })) (f ++ drop (length f) out)
-expected_by out (says f t o) = leaving (accepted (record { size = length f; tokens = t; advance = Given o })) (f ++ drop (length f) out)
+expected_by out (gives f t) = leaving (accepted (record { size = length f; tokens = t; advance = None })) (f ++ drop (length f) out)
+expected_by out (says f t o) = leaving (accepted (record { size = length f; tokens = t; advance = Some o })) (f ++ drop (length f) out)
 expected_by out (refuses n v) = leaving (refused n v) out
 
 abbrev pub Holds : Row → Type 0
@@ -68,7 +70,7 @@ itself = 0x00 ∷ 0x01 ∷ 0x01 ∷ 0x01 ∷ 0x03 ∷ 0x20 ∷ 0x0A ∷ []
 
 -- an integer
 abbrev whole : ℕ → Operand
-whole n = record { fixed = false; value = pos n }
+whole n = Integer (pos n)
 
 -- ample budget and room, plain
 abbrev row : List ℕ → List ℕ → Expected → Row
@@ -258,7 +260,7 @@ abbrev silent : List ℕ → ℕ → Row
 silent cs t = row cs none (gives cs t)
 
 abbrev telling : List ℕ → ℕ → Bool → ℤ → Row
-telling cs t fixed value = row cs none (says cs t (record { fixed = fixed; value = value }))
+telling cs t fixed value = row cs none (says cs t (operand_as fixed value))
 
 abbrev saying : List ℕ → ℕ → Row
 saying cs t = telling cs t false (pos 1)

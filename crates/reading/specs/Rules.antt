@@ -2,15 +2,16 @@
 -- All that rule sets differ in stands here: no operator's byte is tested anywhere else.
 use Rattle.std.specs.Prelude.{ℕ, Bool, true, false, cond, ◌||◌, List, [], ◌∷◌, eqb}
 use Rattle.index.specs.Index.{width_of}
-use Rattle.reading.specs.declared.Rules.{Rules as CodeRules}
-use Rattle.reading.specs.declared.Operator.{Operator}
-use Rattle.reading.specs.declared.Which.TheVariants.{Local, Global}
-use Rattle.reading.specs.declared.Kind.{Kind}
-use Rattle.reading.specs.declared.Kind.TheVariants.{Stem, Clear, Mask, Call, Return, End, Unknown}
-use Rattle.reading.specs.declared.Takes.{Takes}
-use Rattle.reading.specs.declared.Takes.TheVariants.{Pairs, UpTo, All}
-use Rattle.reading.specs.declared.Profile.{Profile}
-use Rattle.reading.specs.declared.Profile.TheVariants.{Plain, Strict}
+use Rattle.reading.specs.declared.rules.Rules.{Rules as CodeRules}
+use Rattle.reading.specs.declared.operator.Operator.{Operator}
+use Rattle.reading.specs.declared.operator.Operator.TheVariants.{OneByte, TwoByte}
+use Rattle.reading.specs.declared.operator.Which.TheVariants.{Local, Global}
+use Rattle.reading.specs.declared.operator.Kind.{Kind}
+use Rattle.reading.specs.declared.operator.Kind.TheVariants.{Stem, Clear, Mask, Call, Return, End, Unknown}
+use Rattle.reading.specs.declared.operator.Takes.{Takes}
+use Rattle.reading.specs.declared.operator.Takes.TheVariants.{Pairs, UpTo, All}
+use Rattle.reading.specs.declared.rules.Profile.{Profile}
+use Rattle.reading.specs.declared.rules.Profile.TheVariants.{Plain, Strict}
 
 pub record Rules : Type 0 where
   pub operands : ℕ  -- how many may wait on the stack
@@ -47,7 +48,8 @@ unfoldable pub escaped_kind : ℕ → Kind
 escaped_kind b = cond (among b (34 ∷ 35 ∷ 36 ∷ 37 ∷ [])) Clear Unknown
 
 unfoldable pub kind_by : Bool → Operator → Kind
-kind_by ends p = cond p.escaped (escaped_kind p.byte) (byte_kind ends p.byte)
+kind_by ends (OneByte b) = byte_kind ends b
+kind_by ends (TwoByte b) = escaped_kind b
 
 -- Type 2 has both
 abbrev pub type2 : Operator → Kind
@@ -63,7 +65,8 @@ byte_takes b =
     (cond (eqb b 14) (UpTo 0) All)))
 
 unfoldable pub type2_takes : Operator → Takes
-type2_takes p = cond p.escaped All (byte_takes p.byte)
+type2_takes (OneByte b) = byte_takes b
+type2_takes (TwoByte b) = All
 
 abbrev pub plain : Rules
 plain = record { operands = 48; levels = 63; hints = 65535; exact = false; clean = false; finished = false; width = 2; kind = type2; takes = type2_takes }

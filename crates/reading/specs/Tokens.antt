@@ -1,9 +1,10 @@
 -- Bytes cut into tokens: a number, or an operator with its escape byte (TN5177, 3.1, 3.2; RULES, "Tokens and items"). What a mask takes is not known here.
-use Rattle.std.specs.Prelude.{ℕ, ◌<◌, true, false, cond, List, [], ◌∷◌, get_or, drop, eqb}
+use Rattle.std.specs.Prelude.{ℕ, ◌<◌, cond, List, [], ◌∷◌, get_or, drop, eqb}
 use Rattle.number.specs.Answer.{Answer, accepted, refused}
 use Rattle.number.specs.Number.{Number, charstring_rows, read_by}
 use Rattle.number.specs.declared.Operand.{Operand}
-use Rattle.reading.specs.declared.Operator.{Operator}
+use Rattle.reading.specs.declared.operator.Operator.{Operator}
+use Rattle.reading.specs.declared.operator.Operator.TheVariants.{OneByte, TwoByte}
 
 -- the numbers of a list are bytes
 abbrev pub Bytes : List ℕ → Type 0
@@ -21,12 +22,12 @@ pub data Cut : Type 0 where
 -- the operator of the byte behind the escape byte
 unfoldable pub escaped_at : List ℕ → Cut
 escaped_at [] = lacking
-escaped_at (b ∷ s) = token (operator (record { escaped = true; byte = b })) s
+escaped_at (b ∷ s) = token (operator (TwoByte b)) s
 
 -- the operator at the start of bytes: 12 is the escape byte
 unfoldable pub operator_at : List ℕ → Cut
 operator_at [] = lacking
-operator_at (b ∷ s) = cond (eqb b 12) (escaped_at s) (token (operator (record { escaped = false; byte = b })) s)
+operator_at (b ∷ s) = cond (eqb b 12) (escaped_at s) (token (operator (OneByte b)) s)
 
 -- a byte that starts no number, which is number reading's refusal 6, is an operator's
 unfoldable pub cut_by : List ℕ → Answer Number → Cut

@@ -8,9 +8,9 @@ use Rattle.reading.specs.Tokens.{operator, token, cut, Bytes}
 use Rattle.reading.specs.Items.{Item, operand, bare, masked, counted, at_mask, left_over, left_by}
 use Rattle.reading.specs.Reading.{Shown, item, call, return, struck, State, Ending, back, ended, stopped}
 use Rattle.reading.specs.Flat.{operator_bytes}
-use Rattle.reading.specs.declared.Operator.{Operator}
-use Rattle.reading.specs.declared.Which.{Which}
-use Rattle.reading.specs.declared.Kind.TheVariants.{Stem, Clear, Mask, End}
+use Rattle.reading.specs.declared.operator.Operator.{Operator}
+use Rattle.reading.specs.declared.operator.Which.{Which}
+use Rattle.reading.specs.declared.operator.Kind.TheVariants.{Stem, Clear, Mask, End}
 
 -- the entries of both lists are bytes
 abbrev pub ByteLists : Lists → Type 0
