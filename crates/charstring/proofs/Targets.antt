@@ -1,6 +1,8 @@
 -- The entry that a call enters. Assumes nothing.
 use mathlib.Core.Path.{◌≡◌, subst}
 use mathlib.Core.List.{List}
+use Rattle.std.specs.Prelude.{Result}
+use Rattle.reading.specs.declared.refusal.Refusal.{Refusal}
 use Prim.Native.Nat.{ℕ, ◌+◌, ◌-◌}
 use native.Mathlib.Nat.{add-sub_cancel_left}
 use native.Mathlib.Omega.{arith}
@@ -48,5 +50,5 @@ module _ (rules : Rules) (list : List ℕ) (count : ℕ) (o : Operand) (levels t
   aimed_none n e = rw (← e)
 
 -- the entry's number is the callee's
-pub names_as : (x y : Answer ℕ) (r : Target) → x ≡ y → Names x r → Names y r
+pub names_as : (x y : Answer ℕ) (r : Result Target Refusal) → x ≡ y → Names x r → Names y r
 names_as x y r e n = subst (λ (z : Answer ℕ). Names z r) e n

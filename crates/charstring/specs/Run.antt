@@ -1,6 +1,7 @@
 -- How a state of the code stands for a state of the reading, and what `look`, `stretch` and `run` ensure.
-use Rattle.std.specs.Prelude.{◌≡◌, true, cond, ◌⊎◌, List, [], ◌∷◌, ◌++◌, ℕ, zero, suc, ◌+◌, ◌-◌, ◌/◌, ◌≤◌, ◌<◌}
-use Rattle.std.specs.Prelude.{leb, ltb, length, get_or, drop}
+use Rattle.std.specs.Prelude.{◌≡◌, Option, Result, Ok, Err, true, cond, ◌⊎◌, List, [], ◌∷◌, ◌++◌, ℕ, zero, suc, ◌+◌, ◌-◌}
+use Rattle.std.specs.Prelude.{◌/◌}
+use Rattle.std.specs.Prelude.{◌≤◌, ◌<◌, leb, length, get_or, drop}
 use Rattle.number.specs.Number.{charstring_rows}
 use Rattle.number.specs.Written.{spelling}
 use Rattle.number.specs.declared.Operand.{Operand}
@@ -14,29 +15,26 @@ use Rattle.reading.specs.Flat.{flat}
 use Rattle.reading.specs.Explained.{open_by}
 use Rattle.reading.specs.Answers.{number_of}
 use Rattle.reading.specs.Valid.{ByteLists, Good}
-use Rattle.reading.specs.declared.Rules.{Rules as CodeRules}
-use Rattle.reading.specs.declared.Refusal.{Refusal}
-use Rattle.reading.specs.declared.Stopped.{Stopped}
-use Rattle.reading.specs.declared.Stopped.TheVariants.{At, Alone}
-use Rattle.reading.specs.declared.Operator.{Operator}
-use Rattle.reading.specs.declared.Takes.{Takes}
-use Rattle.reading.specs.declared.Advance.{Advance}
-use Rattle.reading.specs.declared.Which.{Which}
-use Rattle.reading.specs.declared.Which.TheVariants.{Local, Global}
-use Rattle.reading.specs.declared.Kind.TheVariants.{Stem, Clear, Mask, Call, Return, End}
-use Rattle.charstring.specs.Words.{short_of, stack_of, held_by}
+use Rattle.reading.specs.declared.rules.Rules.{Rules as CodeRules}
+use Rattle.reading.specs.declared.refusal.Refusal.{Refusal}
+use Rattle.reading.specs.declared.refusal.Stopped.{Stopped}
+use Rattle.reading.specs.declared.refusal.Stopped.TheVariants.{At, Alone}
+use Rattle.reading.specs.declared.operator.Operator.{Operator}
+use Rattle.reading.specs.declared.operator.Takes.{Takes}
+use Rattle.reading.specs.declared.operator.Which.{Which}
+use Rattle.reading.specs.declared.operator.Which.TheVariants.{Local, Global}
+use Rattle.reading.specs.declared.operator.Kind.TheVariants.{Stem, Clear, Mask, Call, Return, End}
+use Rattle.charstring.specs.Words.{short_of, stack_of, is_settled, held_by}
 use Rattle.charstring.specs.Marks.{Says}
 use Rattle.charstring.specs.Notes.{noted}
 use Rattle.charstring.specs.declared.state.State.{State}
 use Rattle.charstring.specs.declared.look.Limits.{Limits}
 use Rattle.charstring.specs.declared.look.Request.{Request}
-use Rattle.charstring.specs.declared.look.Request.TheVariants.{Push, Clears, Masks, Calls, Returns, Ends, Out, Bad, Short}
+use Rattle.charstring.specs.declared.look.Request.TheVariants.{Push, Clears, Masks, Calls, Returns, Ends, Out, Short}
 use Rattle.charstring.specs.declared.stretch.Ending.{Ending}
-use Rattle.charstring.specs.declared.stretch.Ending.TheVariants.{Back, Ended, Refused}
+use Rattle.charstring.specs.declared.stretch.Ending.TheVariants.{Back, Ended}
 use Rattle.charstring.specs.declared.stretch.Stop.{Stop}
 use Rattle.charstring.specs.declared.stretch.Stop.TheVariants.{Done as Finished, Call as Calling}
-use Rattle.charstring.specs.declared.stretch.Ran.{Ran}
-use Rattle.charstring.specs.declared.stretch.Stretched.{Stretched}
 
 -- ---- what a token asks for
 
@@ -88,8 +86,12 @@ module _ (rules : Rules) (n j : ℕ) (p : Operator) (s : State) where
   Asked Returns = rules.kind p ≡ Return
   Asked (Ends q) = (q ≡ p) × (rules.kind p ≡ End) × (s.count < 4)
   Asked Out = ⊥
-  Asked (Bad k) = Declines (number_of k)
   Asked (Short k b x) = ⊥
+
+  -- or how it is refused
+  abbrev pub AskedOr : Result Request Refusal → Type 0
+  AskedOr (Ok x) = Asked x
+  AskedOr (Err k) = Declines (number_of k)
 
 -- of two bytes the first n spell the number that they start with
 pub record Spelt (b x n : ℕ) : Type 0 where
@@ -121,8 +123,12 @@ module _ (rules : Rules) (cs : List ℕ) (i budget : ℕ) (s : State) where
   Looked Returns = (p : Operator) × (j : ℕ) × AtOperator cs i j s.tokens budget p × (rules.kind p ≡ Return)
   Looked (Ends p) = (j : ℕ) × AtOperator cs i j s.tokens budget p × (rules.kind p ≡ End) × (s.count < 4)
   Looked Out = length cs ≤ i
-  Looked (Bad k) = Refuses (number_of k)
   Looked (Short j b x) = Pushes j (short_of b x) × Spelt b x (j - i)
+
+  -- or how it is refused
+  abbrev pub LookedOr : Result Request Refusal → Type 0
+  LookedOr (Ok x) = Looked x
+  LookedOr (Err k) = Refuses (number_of k)
 
 -- ---- the state
 
@@ -142,7 +148,7 @@ pub record Holds (stack : List ℕ) (s : State) (x : Left) : Type 0 where
   pub ops : x.operands ≡ stack_of stack s.count
   pub hints_are : x.hints ≡ s.hints
   pub mask_is : x.mask ≡ s.mask
-  pub settled_is : x.settled ≡ ltb 0 s.said
+  pub settled_is : x.settled ≡ is_settled s.settled
   pub advance_is : x.advance ≡ held_by s
 
 pub record Repr (rules : Rules) (stack out : List ℕ) (s : State) (t : Now) : Type 0 where
@@ -155,14 +161,27 @@ pub record Repr (rules : Rules) (stack out : List ℕ) (s : State) (t : Now) : T
   pub good : Good rules t
   pub bytes : Begins out (flat (struck t.shown))
 
-abbrev pub how_of : Ending → How
-how_of Back = back
-how_of Ended = ended
-how_of (Refused k) = stopped (number_of k)
+abbrev pub Verdict : Type 0
+Verdict = Result Ending Refusal
+
+abbrev pub how_of : Verdict → How
+how_of (Ok Back) = back
+how_of (Ok Ended) = ended
+how_of (Err k) = stopped (number_of k)
+
+-- what a run answers, and the state that it leaves
+pub record Ran : Type 0 where
+  pub how : Verdict
+  pub st : State
+
+-- the same of a stretch
+pub record Stretched : Type 0 where
+  pub st : State
+  pub stop : Result Stop Refusal
 
 -- the advance width behind an operator that takes so many operands, as the code settles it or lets it be
-abbrev pub settled_at : Takes → List ℕ → State → Advance
-settled_at takes stack s = cond (ltb 0 s.said) (held_by s) (said takes (stack_of stack s.count))
+abbrev pub settled_at : Takes → List ℕ → State → Option Operand
+settled_at takes stack s = cond (is_settled s.settled) (held_by s) (said takes (stack_of stack s.count))
 
 -- ---- a string and what it is run with
 
@@ -286,9 +305,10 @@ module _ (cs : List ℕ) (by : Limits) where
       }
 
   -- the string ended, or a call stands at some place
-  abbrev pub Reached : Ground → ℕ → List ℕ → List ℕ → State → Stop → Type 0
-  Reached g from stack out st (Finished how) = EndsIn (upon g) stack out g.marks (record { how = how; st = st })
-  Reached g from stack out st (Calling next w) =
+  abbrev pub Reached : Ground → ℕ → List ℕ → List ℕ → State → Result Stop Refusal → Type 0
+  Reached g from stack out st (Err k) = EndsIn (upon g) stack out g.marks (record { how = Err k; st = st })
+  Reached g from stack out st (Ok (Finished how)) = EndsIn (upon g) stack out g.marks (record { how = Ok how; st = st })
+  Reached g from stack out st (Ok (Calling next w)) =
       (i : ℕ) × (from ≤ i) × Here (upon g) stack out st i × CallsAt (meant by.rules) cs i by.budget st next w
 
   -- the state stands for one of the reading, on some ground
