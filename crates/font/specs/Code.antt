@@ -1,17 +1,19 @@
 -- What the two passes promise each other. A reader need not believe it: no public contract names it.
-use Rattle.std.specs.Prelude.{◌≡◌, Bool, true, false, List, [], ◌∷◌, ◌++◌, ℕ, zero, suc, ◌+◌, ◌<◌, ◌≤◌, length, get_or, take}
-use Rattle.std.specs.Prelude.{set}
-use Rattle.number.specs.Answer.{Answer, accepted, refused, alone, at_glyph, mapped, Outcome, sized, into}
+use Rattle.std.specs.Prelude.{◌≡◌, Result, Ok, Err, Bool, true, false, List, [], ◌∷◌, ◌++◌, ℕ, zero, suc, ◌+◌, ◌<◌, ◌≤◌, length}
+use Rattle.std.specs.Prelude.{get_or, take, set}
+use Rattle.number.specs.Answer.{Answer, accepted, refused, at_glyph, mapped, Outcome, sized, into}
 use Rattle.index.specs.Index.{data_start, part}
 use Rattle.index_writing.specs.Writing.{total, size_for, offsets, reach_of}
 use Rattle.index_writing.specs.Code.{laid}
 use Rattle.reading.specs.Rules.{Rules, rules_of}
 use Rattle.reading.specs.Reading.{Run, original}
 use Rattle.reading.specs.Answers.{Flattening, verdict, stop_number, stop_values}
-use Rattle.reading.specs.declared.Profile.{Profile}
-use Rattle.font.specs.Font.{flat_in, Choice, within, all_from, lengths_of, joined_of, indexed}
-use Rattle.font.specs.declared.first.Survey.{Survey}
-use Rattle.font.specs.declared.first.Survey.TheVariants.{Flat, NoGlyph, Refused}
+use Rattle.reading.specs.declared.rules.Profile.{Profile}
+use Rattle.font.specs.Font.{flat_in, Choice, every, these, within, all_from, lengths_of, joined_of, indexed}
+use Rattle.font.specs.declared.choice.Choice.{Choice as Asked}
+use Rattle.font.specs.declared.choice.Choice.TheVariants.{Every, These}
+use Rattle.font.specs.declared.error.FontError.{FontError}
+use Rattle.font.specs.declared.error.FontError.TheVariants.{BadGlobals, BadLocals, BadCharstrings, TooMany, NoGlyph, Refused, TooLong, NoRoom}
 
 -- ---- the glyphs of a font, and what each gives
 
@@ -21,8 +23,13 @@ string_in profile globals locals budget cs = flat_in (rules_of profile) (origina
 abbrev pub glyphs_of : Profile → List ℕ → List ℕ → List ℕ → ℕ → ℕ → Answer (List ℕ)
 glyphs_of profile charstrings globals locals budget i = string_in profile globals locals budget (part 2 charstrings i)
 
--- ---- which are asked for: all of a font's n, or those that are numbered
+-- ---- which are asked for
 
+abbrev pub choice_of : Asked → Choice
+choice_of (Every n) = every n
+choice_of (These numbers) = these numbers.now 0
+
+-- how many places there are, of all n glyphs or of those that are numbered, and the number at a place
 abbrev pub places_of : Bool → List ℕ → ℕ → ℕ
 places_of true numbers n = n
 places_of false numbers n = length numbers
@@ -31,20 +38,15 @@ abbrev pub number_of : Bool → List ℕ → ℕ → ℕ
 number_of true numbers k = k
 number_of false numbers k = get_or numbers k 0
 
-abbrev pub choice_of : Bool → List ℕ → ℕ → Choice
-choice_of all numbers n = record { many = places_of all numbers n; number = number_of all numbers }
+-- what the glyph at a place gives; the same, or 25; and whether there is one at each of the first n places
+abbrev pub placed : Choice → (ℕ → Answer (List ℕ)) → ℕ → Answer (List ℕ)
+placed choice glyph k = glyph (choice.number k)
 
--- what the glyph at a place gives; and whether there is one
-module _ (all : Bool) (numbers : List ℕ) where
-  abbrev pub placed : (ℕ → Answer (List ℕ)) → ℕ → Answer (List ℕ)
-  placed glyph k = glyph (number_of all numbers k)
+abbrev pub asked : Choice → ℕ → (ℕ → Answer (List ℕ)) → ℕ → Answer (List ℕ)
+asked choice count glyph k = within count glyph (choice.number k)
 
-  abbrev pub asked : ℕ → (ℕ → Answer (List ℕ)) → ℕ → Answer (List ℕ)
-  asked count glyph k = within count glyph (number_of all numbers k)
-
-  -- at each of the first n places
-  abbrev pub There : ℕ → ℕ → Type 0
-  There count n = (k : ℕ) → k < n → number_of all numbers k < count
+abbrev pub There : Choice → ℕ → ℕ → Type 0
+There choice count n = (k : ℕ) → k < n → choice.number k < count
 
 -- ---- what they give
 
@@ -112,17 +114,9 @@ module _ (glyph : ℕ → Answer (List ℕ)) where
   unfoldable pub filled : ℕ → ℕ → List ℕ → List ℕ
   filled n z out = laid 3 (offsets z 1 (lengths_of (strings 0 n))) (take (data_start 2 n z) out) ++ joined_of (strings 0 n)
 
--- what the first pass finds at n places of a font's glyphs
-module _ (all : Bool) (numbers : List ℕ) (count : ℕ) (glyph : ℕ → Answer (List ℕ)) where
-  abbrev pub Surveyed : ℕ → List ℕ → List ℕ → Survey → Type 0
-  Surveyed n lengths joined (Flat sum) =
-      There all numbers count n × Measured (placed all numbers glyph) n sum × Kept (placed all numbers glyph) n lengths joined
-  Surveyed n lengths joined (NoGlyph i) = refused 25 (at_glyph i alone) ≡ all_from (asked all numbers count glyph) 0 n
-  Surveyed n lengths joined (Refused i w) = refused (stop_number w) (at_glyph i (stop_values w)) ≡ all_from (asked all numbers count glyph) 0 n
+-- ---- the run of one
 
--- ---- the leaves
-
--- where the next string is kept, behind `sum` bytes
+-- where its string is kept, behind `sum` bytes
 abbrev pub Reached : ℕ → ℕ → ℕ → Type 0
 Reached sum room r = (r ≤ room) × (sum ≤ room → r ≡ sum)
 
@@ -130,16 +124,27 @@ Reached sum room r = (r ≤ room) × (sum ≤ room → r ≡ sum)
 abbrev pub Noted : ℕ → ℕ → ℕ → ℕ → List ℕ → List ℕ → Type 0
 Noted i n sum room old new = sum ≤ room → i < length old → new ≡ set old i n
 
+-- the length of the string at place i
+abbrev pub at_place : ℕ → Answer (List ℕ) → Answer ℕ
+at_place i (accepted f) = accepted (length f)
+at_place i (refused k v) = refused k (at_glyph i v)
+
 -- the refusal of a run by the rules
 abbrev pub OfRun : Answer Flattening → Type 0
 OfRun (accepted x) = ⊥
 OfRun (refused k v) = (rules : Rules) × (r : Run) × (refused k v ≡ verdict rules r)
 
 -- told of place i
-abbrev pub StoppedAt : ℕ → Answer Flattening → Survey → Type 0
-StoppedAt i a (Flat sum) = ⊥
-StoppedAt i a (NoGlyph j) = ⊥
-StoppedAt i a (Refused j w) = (j ≡ i) × (a ≡ refused (stop_number w) (stop_values w))
+abbrev pub StoppedAt : ℕ → Answer Flattening → Result ℕ FontError → Type 0
+StoppedAt i a (Ok n) = ⊥
+StoppedAt i a (Err (BadGlobals f)) = ⊥
+StoppedAt i a (Err (BadLocals f)) = ⊥
+StoppedAt i a (Err (BadCharstrings f)) = ⊥
+StoppedAt i a (Err TooMany) = ⊥
+StoppedAt i a (Err (NoGlyph j)) = ⊥
+StoppedAt i a (Err (Refused j w)) = (j ≡ i) × (a ≡ refused (stop_number w) (stop_values w))
+StoppedAt i a (Err TooLong) = ⊥
+StoppedAt i a (Err (NoRoom n)) = ⊥
 
 -- a string that is there, and has room from `to` on
 pub record Fits (a : Answer (List ℕ)) (to : ℕ) (out : List ℕ) : Type 0 where
@@ -152,9 +157,7 @@ pub record Begun (a : Answer (List ℕ)) (to : ℕ) (old new : List ℕ) (r : �
   pub told : r ≡ length (string_of a)
   pub bytes : take (to + length (string_of a)) new ≡ take to old ++ string_of a
 
--- n lengths that are those of `sum` bytes
-pub record Whole (n sum : ℕ) (lengths joined : List ℕ) : Type 0 where
-  pub few : n ≤ 65535
-  pub listed : n ≤ length lengths
-  pub inside : sum ≤ length joined
-  pub adds : total (take n lengths) ≡ sum
+-- lengths that are those of the bytes
+pub record Whole (lengths joined : List ℕ) : Type 0 where
+  pub few : length lengths ≤ 65535
+  pub adds : total lengths ≡ length joined

@@ -1,17 +1,17 @@
 -- Glyphs of a font flattened (RULES, "Glyphs of a font"; document 02, T-01): from a CharStrings INDEX the INDEX of flat strings, of all glyphs in
 -- order or of those that are asked for, each run afresh under the whole budget. The refusals in turn: 1, 2, 26; 22; at the first place that is
 -- refused 25 or the glyph's own; 23; 13.
-use Rattle.std.specs.Prelude.{ℕ, zero, suc, ◌+◌, ◌*◌, ◌^◌, cond, List, [], ◌∷◌, ◌++◌, leb, ltb, length, get_or}
-use Rattle.number.specs.Answer.{Answer, accepted, refused, alone, needing, because, at_glyph, mapped, Outcome, Ready, sized, into}
+use Rattle.std.specs.Prelude.{ℕ, Result, Ok, Err, zero, suc, ◌+◌, ◌*◌, ◌^◌, cond, List, [], ◌∷◌, ◌++◌, leb, ltb, length, get_or}
+use Rattle.number.specs.Answer.{Answer, accepted, refused, alone, needing, because, at_glyph, mapped, number_in, Outcome, Ready, sized, into}
 use Rattle.index.specs.Index.{part}
 use Rattle.index.specs.Formed.{formation, reason_of, reason_at}
 use Rattle.index_writing.specs.Writing.{index_of}
 use Rattle.reading.specs.Rules.{Rules}
 use Rattle.reading.specs.Reading.{Run, original}
 use Rattle.reading.specs.Answers.{Flattening, judged, stop_number, stop_values}
-use Rattle.font.specs.declared.FontFlattened.{FontFlattened}
-use Rattle.font.specs.declared.FontFlattened.TheVariants.{Written, BadGlobals, BadLocals, BadCharstrings}
-use Rattle.font.specs.declared.FontFlattened.TheVariants.{TooMany, NoGlyph, Refused, TooLong, NoRoom}
+use Rattle.font.specs.declared.error.FontError.{FontError}
+use Rattle.font.specs.declared.error.FontError.TheVariants.{BadGlobals, BadLocals, BadCharstrings}
+use Rattle.font.specs.declared.error.FontError.TheVariants.{TooMany, NoGlyph, Refused, TooLong, NoRoom}
 
 -- ---- which glyphs
 
@@ -96,14 +96,17 @@ flatten_glyphs rules choice charstrings globals locals budget out = into out (ma
 abbrev pub flatten_font : Rules → List ℕ → List ℕ → List ℕ → ℕ → List ℕ → Outcome (Answer ℕ)
 flatten_font rules = flatten_glyphs rules every
 
--- what the enum says
-abbrev pub font_flattened : FontFlattened → Answer ℕ
-font_flattened (Written n) = accepted n
-font_flattened (BadGlobals f) = refused 1 (because (reason_of f) (reason_at f))
-font_flattened (BadLocals f) = refused 2 (because (reason_of f) (reason_at f))
-font_flattened (BadCharstrings f) = refused 26 (because (reason_of f) (reason_at f))
-font_flattened TooMany = refused 22 alone
-font_flattened (NoGlyph i) = refused 25 (at_glyph i alone)
-font_flattened (Refused i w) = refused (stop_number w) (at_glyph i (stop_values w))
-font_flattened TooLong = refused 23 alone
-font_flattened (NoRoom n) = refused 13 (needing n)
+-- what the answer says
+abbrev pub font_flattened : Result ℕ FontError → Answer ℕ
+font_flattened (Ok n) = accepted n
+font_flattened (Err (BadGlobals f)) = refused 1 (because (reason_of f) (reason_at f))
+font_flattened (Err (BadLocals f)) = refused 2 (because (reason_of f) (reason_at f))
+font_flattened (Err (BadCharstrings f)) = refused 26 (because (reason_of f) (reason_at f))
+font_flattened (Err TooMany) = refused 22 alone
+font_flattened (Err (NoGlyph i)) = refused 25 (at_glyph i alone)
+font_flattened (Err (Refused i w)) = refused (stop_number w) (at_glyph i (stop_values w))
+font_flattened (Err TooLong) = refused 23 alone
+font_flattened (Err (NoRoom n)) = refused 13 (needing n)
+
+abbrev pub font_refusal : FontError → ℕ
+font_refusal e = number_in (font_flattened (Err e))

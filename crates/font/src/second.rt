@@ -1,155 +1,70 @@
 // The second pass: it runs the glyphs again, each into its place in the INDEX, where the first pass could not keep them.
-ghost use Rattle.std.specs.Prelude.{◌≡◌, ◌+◌, ◌≤◌, ◌<◌, length};
-ghost use Rattle.number.specs.Answer.{mapped, leaving, sized, into};
-ghost use Rattle.index_writing.specs.Writing.{index_bytes};
-ghost use Rattle.font.specs.Font.{lengths_of, joined_of, indexed, font_flattened};
-ghost use Rattle.font.specs.Code.{glyphs_of, placed, all_of, string_in, strings, Measured, Laid, Filled, filled, Fits, Begun};
-
-use crate::FontFlattened;
-use crate::choice::number_at;
-use charstring::draft;
-use index::{Width, entry_part};
-use index_writing::{IndexPlan, plan_index};
+// (not by `write_index`, which wants all of the data at once: there is no room for them but in `out`)
+// (`as` in this file: std has no `From` between `usize` and `u32`, `u64` or `u8`; each value is proved to fit)
+use crate::error::FontError;
+use crate::glyphs::Glyphs;
+use index_writing::plan_index;
 use number::write_be;
-use reading::{Flattened, Profile};
 
-// Writes the INDEX of the flat strings at `many` places, which have `sum` bytes together, to the start of out.
-pub(crate) fn write_all<'a>(
-    charstrings: &'a [u8],
-    globals: &'a [u8],
-    locals: &'a [u8],
-    profile: Profile,
-    budget: u32,
-    all: bool,
-    numbers: &[u32],
-    many: u32,
-    sum: u64,
-    out: &mut [u8],
-) -> FontFlattened
-    requires { Measured (placed all numbers.now (glyphs_of profile charstrings.now globals.now locals.now budget)) many sum }
-    ensures { leaving (font_flattened result) out.new
-        ≡ all_of (placed all numbers.now
-        (glyphs_of profile charstrings.now globals.now locals.now budget)) many out.old }
-{
-    let IndexPlan::Of(size, needed) = plan_index(many, sum) else {
-        return FontFlattened::TooLong;
-    };
-    if out.len() < needed {
-        return FontFlattened::NoRoom(needed);
+impl Glyphs<'_> {
+    ghost use Rattle.std.specs.Prelude.{◌≡◌, ◌<◌};
+    ghost use Rattle.number.specs.Answer.{leaving};
+    ghost use Rattle.index_writing.specs.Writing.{index_bytes};
+    ghost use Rattle.font.specs.Font.{lengths_of, joined_of, font_flattened};
+    ghost use Rattle.font.specs.Code.{all_of, strings, Measured, Laid, Filled, filled, Fits, Begun};
+    ghost use Rattle.font.specs.Glyphs.{asked_of};
+
+    /// Writes the INDEX of their flat strings, which have `sum` bytes together, to the start of out.
+    pub(crate) fn write_all(&self, sum: usize, out: &mut [u8]) -> Result<usize, FontError>
+        requires { Measured (asked_of self.now) self.now.many sum }
+        ensures { leaving (font_flattened result) out.new ≡ all_of (asked_of self.now) self.now.many out.old }
+    {
+        let plan = plan_index(u32::from(self.many), sum as u64)?;
+        if out.len() < plan.needed {
+            return Err(FontError::NoRoom(plan.needed));
+        }
+        self.put_font(plan.size, &mut out[..plan.needed]);
+        Ok(plan.needed)
     }
-    put_font(
-        charstrings,
-        globals,
-        locals,
-        profile,
-        budget,
-        all,
-        numbers,
-        many,
-        size,
-        &mut out[..needed],
-    );
-    FontFlattened::Written(needed)
-}
 
-// Stores the INDEX, which fills out.
-fn put_font<'a>(
-    charstrings: &'a [u8],
-    globals: &'a [u8],
-    locals: &'a [u8],
-    profile: Profile,
-    budget: u32,
-    all: bool,
-    numbers: &[u32],
-    many: u32,
-    size: usize,
-    out: &mut [u8],
-)
-    requires { Laid (placed all numbers.now (glyphs_of profile charstrings.now globals.now locals.now budget)) many size out.old }
-    ensures { out.new
-        ≡ index_bytes 2
-        (lengths_of (strings (placed all numbers.now
-        (glyphs_of profile charstrings.now globals.now locals.now budget)) 0 many))
-        (joined_of (strings (placed all numbers.now
-        (glyphs_of profile charstrings.now globals.now locals.now budget)) 0 many)) }
-{
-    write_be(out, 0, 2, many);
-    if many == 0 {
-        return;
+    // Stores the INDEX, which fills out.
+    fn put_font(&self, size: usize, out: &mut [u8])
+        requires { Laid (asked_of self.now) self.now.many size out.old }
+        ensures { out.new
+            ≡ index_bytes 2 (lengths_of (strings (asked_of self.now) 0 self.now.many)) (joined_of (strings (asked_of self.now) 0 self.now.many)) }
+    {
+        write_be(out, 0, 2, u32::from(self.many));
+        if self.many == 0 {
+            return;
+        }
+        out[2] = size as u8;
+        self.put_glyphs(size, out);
     }
-    out[2] = size as u8;
-    put_glyphs(
-        charstrings,
-        globals,
-        locals,
-        profile,
-        budget,
-        all,
-        numbers,
-        many,
-        size,
-        out,
-    );
-}
 
-// Stores the offsets, which count from the byte before the data, and the flat strings.
-fn put_glyphs<'a>(
-    charstrings: &'a [u8],
-    globals: &'a [u8],
-    locals: &'a [u8],
-    profile: Profile,
-    budget: u32,
-    all: bool,
-    numbers: &[u32],
-    many: u32,
-    size: usize,
-    out: &mut [u8],
-)
-    requires { Filled (placed all numbers.now (glyphs_of profile charstrings.now globals.now locals.now budget)) many size out.old }
-    ensures { out.new
-        ≡ filled (placed all numbers.now
-        (glyphs_of profile charstrings.now globals.now locals.now budget)) many size out.old }
-{
-    let base = 2 + (many as usize + 1) * size;
-    let mut offset: u32 = 1;
-    let mut at: usize = 3;
-    let mut i: u32 = 0;
-    while i < many {
+    // Stores the offsets, which count from the byte before the data, and the flat strings. (no chunks of out: both go to `out`)
+    fn put_glyphs(&self, size: usize, out: &mut [u8])
+        requires { Filled (asked_of self.now) self.now.many size out.old }
+        ensures { out.new ≡ filled (asked_of self.now) self.now.many size out.old }
+    {
+        // (no public function of index has a `requires`, as where the data start needs one)
+        let base = 2 + (usize::from(self.many) + 1) * size;
+        let mut offset: u32 = 1;
+        let mut at: usize = 3;
+        for i in 0..self.many {
+            write_be(out, at, size, offset);
+            offset += self.put_run(i, base + offset as usize, out);
+            at += size;
+        }
         write_be(out, at, size, offset);
-        let number = number_at(all, numbers, i);
-        let glyph = entry_part(charstrings, Width::Two, number);
-        offset += put_run(
-            glyph,
-            globals,
-            locals,
-            profile,
-            budget,
-            base + offset as usize,
-            out,
-        );
-        at += size;
-        i += 1;
     }
-    write_be(out, at, size, offset);
-}
 
-// Runs a glyph again and stores its flat string from `to` on; how many bytes it has. What stands behind them is stored later.
-fn put_run<'a>(
-    glyph: &'a [u8],
-    globals: &'a [u8],
-    locals: &'a [u8],
-    profile: Profile,
-    budget: u32,
-    to: usize,
-    out: &mut [u8],
-) -> u32
-    requires { Fits (string_in profile globals.now locals.now budget glyph.now) to out.old }
-    ensures { Begun (string_in profile globals.now locals.now budget glyph.now) to
-        out.old out.new result }
-{
-    let Flattened::Accepted(n, ..) = draft(glyph, globals, locals, profile, budget, &mut out[to..])
-    else {
-        return 0;
-    };
-    n as u32
+    // Runs the glyph at place i again and stores its flat string from `to` on; how many bytes it has. What stands behind them is
+    // stored later.
+    fn put_run(&self, i: u16, to: usize, out: &mut [u8]) -> u32
+        requires there { i < self.now.many }
+        requires fits { Fits (asked_of self.now i) to out.old }
+        ensures { Begun (asked_of self.now i) to out.old out.new result }
+    {
+        self.run(i, &mut out[to..]).unwrap_or(0) as u32
+    }
 }
