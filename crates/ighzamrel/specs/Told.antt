@@ -1,15 +1,14 @@
 -- What a C function tells: its number, and what is at the places that were lent to it (RULES, "Answers", "Refusals").
-use Rattle.std.specs.Prelude.{ℕ, Bool, true, false, not, cond, List, ℤ, eqb}
-use Rattle.number.specs.Answer.{Values, Answer, accepted, refused, length_or, tokens_or, entry_or, reason_or, glyph_or, Outcome, leaving}
+use Rattle.std.specs.Prelude.{ℕ, Option, Some, None, Bool, true, false, not, cond, List, ℤ, eqb}
+use Rattle.number.specs.Answer.{Values, Answer, accepted, refused, alone, length_or, tokens_or, entry_or, reason_or, glyph_or, Outcome, leaving}
 use Rattle.number.specs.Number.{Number}
+use Rattle.number.specs.Operand.{is_fixed, value_in, operand_as}
 use Rattle.number.specs.declared.Operand.{Operand}
 use Rattle.reading.specs.Answers.{Flattening}
 use Rattle.reading.specs.Entered.{Lent, Marked}
 use Rattle.reading.specs.Explained.{Explaining}
-use Rattle.reading.specs.declared.Advance.{Advance}
-use Rattle.reading.specs.declared.Advance.TheVariants.{Default, Given}
-use Rattle.reading.specs.declared.Profile.{Profile}
-use Rattle.reading.specs.declared.Profile.TheVariants.{Plain, Strict}
+use Rattle.reading.specs.declared.rules.Profile.{Profile}
+use Rattle.reading.specs.declared.rules.Profile.TheVariants.{Plain, Strict}
 
 -- ---- C's numbers: a `kind` is 0 for an integer, else a Fixed; a `profile` is 0 for plain, else strict
 
@@ -21,20 +20,20 @@ kind_of false = 0
 kind_of true = 1
 
 abbrev pub operand_of : ℕ → ℤ → Operand
-operand_of kind value = record { fixed = nonzero kind; value = value }
+operand_of kind value = operand_as (nonzero kind) value
 
 -- of an advance width 2 stands for none, whose value is not told
-abbrev pub width_kind_of : Advance → ℕ
-width_kind_of Default = 2
-width_kind_of (Given o) = kind_of o.fixed
+abbrev pub width_kind_of : Option Operand → ℕ
+width_kind_of None = 2
+width_kind_of (Some o) = kind_of (is_fixed o)
 
-abbrev pub width_or : ℤ → Advance → ℤ
-width_or old Default = old
-width_or old (Given o) = o.value
+abbrev pub width_or : ℤ → Option Operand → ℤ
+width_or old None = old
+width_or old (Some o) = value_in o
 
 -- and so a width is told
-abbrev pub advance_told : ℕ → ℤ → Advance
-advance_told kind value = cond (eqb kind 2) Default (Given (operand_of kind value))
+abbrev pub advance_told : ℕ → ℤ → Option Operand
+advance_told kind value = cond (eqb kind 2) None (Some (operand_of kind value))
 
 unfoldable pub profile_of : ℕ → Profile
 profile_of n = cond (eqb n 0) Plain Strict
@@ -54,6 +53,11 @@ unfoldable pub tell : {A P : Type 0} → (P → A → P) → (P → Values → P
 tell set set_by (accepted x) old = told 0 (set old x)
 tell set set_by (refused n v) old = told n (set_by old v)
 
+-- what comes with an answer that is a refusal
+abbrev pub values_in : {A : Type 0} → Answer A → Values
+values_in (accepted x) = alone
+values_in (refused n v) = v
+
 -- ---- of a reader: a refusal leaves each place as it was
 
 abbrev pub tell_read : {A P : Type 0} → (A → P) → Answer A → P → Told P
@@ -69,14 +73,14 @@ pub record NumberPlaces : Type 0 where
   pub width : ℕ
 
 abbrev pub number_places : Number → NumberPlaces
-number_places x = record { kind = kind_of x.operand.fixed; value = x.operand.value; width = x.width }
+number_places x = record { kind = kind_of (is_fixed x.operand); value = value_in x.operand; width = x.width }
 
 pub record IntegerPlaces : Type 0 where
   pub value : ℤ
   pub width : ℕ
 
 abbrev pub integer_places : Number → IntegerPlaces
-integer_places x = record { value = x.operand.value; width = x.width }
+integer_places x = record { value = value_in x.operand; width = x.width }
 
 -- ---- of a list: its count, or the entry that its refusal comes with
 
