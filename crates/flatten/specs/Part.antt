@@ -1,12 +1,14 @@
 -- What the program makes of any bytes: of a font part (RULES, "Font parts"), which the crate `part` cuts, and of what is none.
-use Rattle.std.specs.Prelude.{ℕ, Bool, true, false, List}
+use Rattle.std.specs.Prelude.{ℕ, Bool, true, false, List, Result, Ok, Err}
 use Rattle.number.specs.Answer.{Answer, Outcome, leaving}
 use Rattle.reading.specs.Rules.{Rules}
 use Rattle.reading.specs.Answers.{Flattening, flattened, flattening}
 use Rattle.font.specs.Font.{font_flattened, flatten_font}
 use Rattle.part.specs.Part.{Parts, headless as cut_headless, says as cut_says, parts, parts_of}
-use Rattle.flatten.specs.declared.flattening.Reply.{Reply}
-use Rattle.flatten.specs.declared.flattening.Reply.TheVariants.{Flattened, Font, Headless, Says}
+use Rattle.part.specs.declared.cut.NoPart.{NoPart}
+use Rattle.part.specs.declared.cut.NoPart.TheVariants.{Headless, Says}
+use Rattle.flatten.specs.declared.flattening.Answer.{Answer as Flattened}
+use Rattle.flatten.specs.declared.flattening.Answer.TheVariants.{Glyph, Font}
 
 -- What is told of the bytes: an answer of flattening, a charstring's or a whole font's; no font part, for the lengths are not all there; or none,
 -- for by its lengths it would have so many bytes.
@@ -34,8 +36,11 @@ part_by told room (parts strings globals locals) = told strings globals locals
 abbrev pub part_of : (List ℕ → List ℕ → List ℕ → Outcome Told) → List ℕ → List ℕ → Outcome Told
 part_of told s room = part_by told room (parts_of s)
 
-abbrev pub told_by : Reply → Told
-told_by (Flattened f) = answered (flattened f)
-told_by (Font f) = answered_font (font_flattened f)
-told_by Headless = headless
-told_by (Says n) = says n
+abbrev pub answer_told : Flattened → Told
+answer_told (Glyph f) = answered (flattened f)
+answer_told (Font f) = answered_font (font_flattened f)
+
+abbrev pub told_by : Result Flattened NoPart → Told
+told_by (Ok a) = answer_told a
+told_by (Err Headless) = headless
+told_by (Err (Says n)) = says n

@@ -6,81 +6,54 @@
 mod answer;
 mod arguments;
 mod flattening;
-mod hex;
 
-ghost use Rattle.std.specs.Prelude.{◌≡◌, length};
-
-use crate::answer::{tell, tell_long};
-use crate::arguments::{Arguments, Asked, read_arguments, tell_wrong};
+use crate::answer::{tell, tell_no_part};
+use crate::arguments::{Asked, read_arguments};
 use crate::flattening::flatten_part;
-use part::{read_full, say, say_error};
-use std::env::Env;
-use std::fs;
-use std::io::{Error, ErrorKind, Read};
+use part::{read_full, say, tell_wrong, with_source, zeros};
+use std::io;
+use std::io::Read;
+
+/// The most bytes of the input, and of the result. Both stand on the stack.
+const LIMIT: usize = 1048576;
+
+const EXPECTED: &str = "flatten [--font] [--strict] [--budget N] [FILE], \
+    where N is a number of tokens, at most 4294967295; without FILE the font part comes on standard input. \
+    With --font it is a whole font's. It has at most 1048576 bytes, and so has the result.";
 
 fn main(rt: HostRuntime) {
     match read_arguments(&rt) {
-        Arguments::Asked(asked) => answer_asked(&rt, asked),
-        Arguments::Wrong(i) => tell_wrong(&rt, &rt.stderr(), i),
+        Ok(asked) => with_source(
+            &rt,
+            "flatten",
+            asked.file,
+            |from| answer_input(&rt, from, asked),
+        ),
+        Err(wrong) => tell_wrong(&rt, &rt.stderr(), "flatten", wrong, EXPECTED),
     }
-}
-
-fn answer_asked(rt: &HostRuntime, asked: Asked) {
-    let file = asked.file;
-    if file == 0 {
-        answer_from(rt, &mut rt.stdin(), b"standard input", asked);
-        return;
-    }
-    let mut path = io::buffer();
-    let n = rt.arg(file, &mut path).unwrap_or(0);
-    // (a path of today's std is text)
-    let Ok(name) = str::from_utf8(&path[..n]) else {
-        tell_failed(
-            &rt.stderr(),
-            &path[..n],
-            Error::from(ErrorKind::InvalidFilename),
-        );
-        return;
-    };
-    match fs::open(rt, name) {
-        Ok(mut input) => answer_from(rt, &mut input, name.as_bytes(), asked),
-        Err(error) => tell_failed(&rt.stderr(), name.as_bytes(), error),
-    }
-}
-
-// Says why a call on this input failed.
-fn tell_failed<P: Print>(err: &P, name: &[u8], error: Error) {
-    say(err, b"flatten: ");
-    say(err, name);
-    say(err, b": ");
-    say_error(err, error);
-    say(err, b"\n");
 }
 
 // Reads the font part and answers it. One more read tells a longer input from its end, and a read
 // that failed from both.
-fn answer_from<R: Read>(rt: &HostRuntime, from: &mut R, name: &[u8], asked: Asked) {
-    let mut input = mebibyte();
+fn answer_input<R: Read>(rt: &HostRuntime, from: &mut R, asked: Asked) -> io::Result<()> {
+    let mut input = zeros::<LIMIT>();
     let n = read_full(from, &mut input);
     let mut more = [0u8; 1];
-    match from.read(&mut more) {
-        Ok(0) => answer_part(rt, &input[..n], asked),
-        Ok(_) => tell_long(&rt.stderr()),
-        Err(error) => tell_failed(&rt.stderr(), name, error),
+    if from.read(&mut more)? == 0 {
+        answer_part(rt, &input[..n], asked);
+    } else {
+        say(
+            &rt.stderr(),
+            "flatten: the input is too long: a font part of more than 1048576 bytes is not taken.\n",
+        );
     }
+    Ok(())
 }
 
 fn answer_part(rt: &HostRuntime, part: &[u8], asked: Asked) {
-    let mut room = mebibyte();
-    let profile = asked.profile;
-    let reply = flatten_part(part, asked.whole, profile, asked.budget, &mut room);
-    tell(&rt.stdout(), &rt.stderr(), reply, part.len(), &room);
-}
-
-// 1,048,576 zeros: the limit of the input and that of the result. They stand on the stack. The
-// `ensures` gives only the length, which lending the array as a slice needs.
-fn mebibyte() -> [u8; 1048576]
-    ensures { 1048576 ≡ length result }
-{
-    [0; 1048576]
+    let mut room = zeros::<LIMIT>();
+    match flatten_part(part, asked.whole, asked.profile, asked.budget, &mut room) {
+        Ok(answer) => tell(&rt.stdout(), answer, &room),
+        Err(why) => tell_no_part(&rt.stderr(), part.len(), why),
+    }
 }

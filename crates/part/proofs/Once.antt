@@ -1,41 +1,60 @@
--- The contract of `cut_part` fixes its result: any two results that it allows for the same bytes are one. Stated over the contract's own reading.
--- Assumes nothing.
+-- The contract of `cut_part` fixes its result: any two results that it allows for the same bytes tell the same, a part's place and bytes each. Stated
+-- over the contract's own reading. Assumes nothing.
 use mathlib.Core.Path.{◌≡◌, refl, sym, ap, ◌∙◌}
 use mathlib.Core.List.{List}
-use Prim.Native.Nat.{ℕ, ◌+◌, ◌-◌}
-use native.Mathlib.Omega.{arith}
-use lib.ListN.{length, take, drop, length-drop}
-use lib.Seq.{length-take-le}
+use Prim.Native.Nat.{ℕ, ◌+◌}
+use Rattle.std.specs.Prelude.{Result, Ok, Err, length}
 use borrow.Fn.Kinds.{Dens, res_t, ended_of}
 use contract.Lifetimes.{Lfts}
 use denote.Triple.Clauses.{AtExit}
 use Rattle.part.specs.Part.{Parts, headless, says, parts, cut_as, Inside}
-use Rattle.part.specs.declared.cut.Cut.{Cut}
-use Rattle.part.specs.declared.cut.Cut.TheVariants.{Parts as At, Headless, Says}
+use Rattle.part.specs.declared.cut.Parts.{Parts as Slices}
+use Rattle.part.specs.declared.cut.NoPart.{NoPart}
+use Rattle.part.specs.declared.cut.NoPart.TheVariants.{Headless, Says}
 use Rattle.part.proofs.cut.cut_part.Kinds as cut_kinds
 use Rattle.part.proofs.cut.cut_part.Reads as cut_reads
 
--- the way back, from what an answer says to the answer: by how long the first two parts are
-cut_of : Parts → Cut
-cut_of headless = Headless
-cut_of (says n) = Says n
-cut_of (parts cs globals locals) = At (12 + length cs) (12 + length cs + length globals)
+-- a part: where it stands, and its bytes
+pub record Piece : Type 0 where
+  pub at : ℕ × ℕ
+  pub bytes : List ℕ
 
-cut_undo : (s : List ℕ) (r : Cut) → Inside (length s) r → cut_of (cut_as s r) ≡ r
-unfolding cut_of
-cut_undo s (At g l) i =
-    let n = length-drop 12 s in
-    let m = length-drop g s in
-    let a : length (take (g - 12) (drop 12 s)) ≡ g - 12 = length-take-le (g - 12) (drop 12 s) (omega arith) in
-    let b : length (take (l - g) (drop g s)) ≡ l - g = length-take-le (l - g) (drop g s) (omega arith) in
-    let x : 12 + length (take (g - 12) (drop 12 s)) ≡ g = omega arith in
-    let y : 12 + length (take (g - 12) (drop 12 s)) + length (take (l - g) (drop g s)) ≡ l = omega arith in
-    λ k. At (x k) (y k)
-cut_undo s Headless i = refl
-cut_undo s (Says n) i = refl
+-- three of them
+pub record Pieces : Type 0 where
+  pub charstrings : Piece
+  pub globals : Piece
+  pub locals : Piece
+
+-- what a result tells
+abbrev pub told : Result Slices NoPart → Result Pieces NoPart
+told (Ok p) =
+    Ok (record {
+      charstrings = record { at = p.charstrings.ref_ptr; bytes = p.charstrings.now };
+      globals = record { at = p.globals.ref_ptr; bytes = p.globals.now };
+      locals = record { at = p.locals.ref_ptr; bytes = p.locals.now };
+    })
+told (Err e) = Err e
+
+-- the way to it from what the bytes are cut into, the first of which stands at `at`
+told_of : ℕ × ℕ → Parts → Result Pieces NoPart
+told_of at headless = Err Headless
+told_of at (says n) = Err (Says n)
+told_of at (parts a b c) =
+    Ok (record {
+      charstrings = record { at = (at.0, at.1 + 12); bytes = a };
+      globals = record { at = (at.0, at.1 + 12 + length a); bytes = b };
+      locals = record { at = (at.0, at.1 + 12 + length a + length b); bytes = c };
+    })
+
+told_is : (at : ℕ × ℕ) (n : ℕ) (r : Result Slices NoPart) → Inside at n r → told_of at (cut_as r) ≡ told r
+unfolding told_of
+told_is at n (Ok p) i = rw (i.charstrings, i.globals, i.locals) refl
+told_is at n (Err Headless) i = refl
+told_is at n (Err (Says k)) i = refl
 
 pub cut_part_once : (κs : Lfts 1) (a : Dens κs cut_kinds.ps) (r r' : (res_t cut_kinds.r κs).Denot)
     (x x' : AtExit (ended_of 1 cut_kinds.ps cut_kinds.r) κs)
-    → cut_reads.Post κs a r x → cut_reads.Post κs a r' x' → r ≡ r'
+    → cut_reads.Post κs a r x → cut_reads.Post κs a r' x' → told r ≡ told r'
 cut_part_once κs a r r' x x' p p' =
-    sym (cut_undo a.0.now r p.1) ∙ ap cut_of (p.0 ∙ sym p'.0) ∙ cut_undo a.0.now r' p'.1
+    let at = a.0.ref_ptr in
+    sym (told_is at _ r p.1) ∙ ap (told_of at) (p.0 ∙ sym p'.0) ∙ told_is at _ r' p'.1

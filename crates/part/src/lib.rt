@@ -1,15 +1,14 @@
 // What the programs `flatten` and `why` share: cutting a font part, what they take in, and the sentences that both say.
 //
-// No public function has a `requires`: each answers every input.
+// No public function has a `requires` but `with_source`, whose closure has to take every source.
 #![tactic(auto)]
 
+mod arguments;
 mod cut;
 mod input;
 mod words;
 
-pub use crate::cut::{Cut, cut_part};
-pub use crate::input::{arg_count, read_full};
-pub use crate::words::{
-    count, say, say_bad, say_bad_globals, say_bad_locals, say_error, say_short, say_stop,
-    say_value, tell_headless, tell_length,
-};
+pub use crate::arguments::{Arguments, LONGEST_ARGUMENT, Wrong, tell_wrong};
+pub use crate::cut::{NoPart, Parts, cut_part};
+pub use crate::input::{Source, read_full, with_source, zeros};
+pub use crate::words::{Flawed, GLOBALS, LOCALS, say, say_no_part, say_short, tell_failed};

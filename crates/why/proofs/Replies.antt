@@ -1,20 +1,12 @@
--- A reply that is no flattening's answer has a line alone. Assumes nothing.
-use mathlib.Core.Path.{◌≡◌, sym}
-use mathlib.Core.List.{List, [], ◌∷◌, append-nil}
-use Prim.Native.Nat.{ℕ}
-use types.Run.{OneOf, miss}
-use denote.Enum.Declared.{tag_of}
+-- What is not explained has a line alone. Assumes nothing.
+use Rattle.std.specs.Prelude.{◌≡◌, refl}
 use Rattle.number.specs.Answer.{number_in, tokens_or}
 use Rattle.why.specs.Why.{pair_line, answer_line}
-use Rattle.why.specs.Code.{replied, calls_in, word_lines, text_of}
-use Rattle.why.specs.declared.explaining.Reply.{Reply}
-use Rattle.why.specs.declared.explaining.Reply.TheVariants.{Told, TooLong, Headless, Says}
-use Rattle.why.specs.contracts.explaining.Reply as reply_type
+use Rattle.why.specs.Code.{unread}
+use Rattle.why.specs.declared.explaining.Unread.{Unread}
+use Rattle.why.specs.declared.explaining.Unread.TheVariants.{TooLong, NoPart}
 
-pub line_alone : (r : Reply) (words : List ℕ) → OneOf (1 ∷ 2 ∷ 3 ∷ []) (tag_of reply_type.the_type r)
-    → pair_line (number_in (replied r)) 0 ≡ text_of (replied r) (calls_in r) words
-unfolding answer_line word_lines tokens_or
-line_alone (Told f n) words k = absurd (miss (1 ∷ 2 ∷ 3 ∷ []) 0 tt k)
-line_alone TooLong words k = sym (append-nil (pair_line 27 0))
-line_alone Headless words k = sym (append-nil (pair_line 28 0))
-line_alone (Says n) words k = sym (append-nil (pair_line 28 0))
+pub line_alone : (why : Unread) → pair_line (number_in (unread why)) 0 ≡ answer_line (unread why)
+unfolding answer_line tokens_or
+line_alone TooLong = refl
+line_alone (NoPart why) = refl

@@ -1,26 +1,30 @@
 -- What the private functions promise each other: an answer with its calls as words, and their text.
-use Rattle.std.specs.Prelude.{ℕ, zero, suc, ◌+◌, ◌≤◌, ◌≡◌, cond, List, [], ◌∷◌, ◌++◌, eqb, length, get_or, drop}
+use Rattle.std.specs.Prelude.{ℕ, zero, suc, ◌+◌, ◌≤◌, ◌≡◌, cond, List, [], ◌∷◌, ◌++◌, eqb, length, get_or, drop, Result, Ok, Err}
 use Rattle.std.proofs.lemmas.List.Edits.{sets}
-use Rattle.number.specs.Answer.{Answer, accepted, refused, alone, tokens_or}
+use Rattle.number.specs.Answer.{Answer, accepted, refused, alone, number_in, tokens_or}
 use Rattle.reading.specs.Answers.{Flattening, flattened}
 use Rattle.reading.specs.Explained.{Explanation}
+use Rattle.reading.specs.declared.answer.Explained.{Explained}
 use Rattle.why.specs.Why.{pair_line, answer_line, call_lines}
-use Rattle.why.specs.declared.explaining.Reply.{Reply}
-use Rattle.why.specs.declared.explaining.Reply.TheVariants.{Told, TooLong, Headless, Says}
+use Rattle.why.specs.declared.explaining.Unread.{Unread}
+use Rattle.why.specs.declared.explaining.Unread.TheVariants.{TooLong, NoPart}
 
 -- ---- a reply
 
-abbrev pub replied : Reply → Answer Flattening
-replied (Told f n) = flattened f
-replied TooLong = refused 27 alone
-replied Headless = refused 28 alone
-replied (Says n) = refused 28 alone
+abbrev pub unread : Unread → Answer Flattening
+unread TooLong = refused 27 alone
+unread (NoPart why) = refused 28 alone
 
-abbrev pub calls_in : Reply → ℕ
-calls_in (Told f n) = n
-calls_in TooLong = 0
-calls_in Headless = 0
-calls_in (Says n) = 0
+abbrev pub unread_number : Unread → ℕ
+unread_number why = number_in (unread why)
+
+abbrev pub replied : Result Explained Unread → Answer Flattening
+replied (Ok e) = flattened e.verdict
+replied (Err why) = unread why
+
+abbrev pub calls_in : Result Explained Unread → ℕ
+calls_in (Ok e) = e.calls
+calls_in (Err why) = 0
 
 -- the tokens that come with an answer, or 0
 abbrev pub tokens_in : Answer Flattening → ℕ
@@ -52,7 +56,7 @@ abbrev pub text_of : Answer Flattening → ℕ → List ℕ → List ℕ
 text_of answer calls words = answer_line answer ++ word_lines calls words
 
 -- ---- a reply explains: its answer, as many calls, at most 63, and the lines of their words
-pub record Explains (x : Explanation) (r : Reply) (words : List ℕ) : Type 0 where
+pub record Explains (x : Explanation) (r : Result Explained Unread) (words : List ℕ) : Type 0 where
   pub answer : replied r ≡ x.answer
   pub few : calls_in r ≤ 63
   pub lines : word_lines (calls_in r) words ≡ call_lines x.calls

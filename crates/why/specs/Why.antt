@@ -5,9 +5,9 @@ use Rattle.reading.specs.Rules.{rules_of}
 use Rattle.reading.specs.Reading.{Entering}
 use Rattle.reading.specs.Answers.{Flattening}
 use Rattle.reading.specs.Explained.{Explanation, without_calls, explanation}
-use Rattle.reading.specs.declared.Profile.TheVariants.{Plain}
-use Rattle.reading.specs.declared.Which.{Which}
-use Rattle.reading.specs.declared.Which.TheVariants.{Local, Global}
+use Rattle.reading.specs.declared.rules.Profile.TheVariants.{Plain}
+use Rattle.reading.specs.declared.operator.Which.{Which}
+use Rattle.reading.specs.declared.operator.Which.TheVariants.{Local, Global}
 use Rattle.part.specs.Part.{Parts, headless, says, parts, parts_of}
 use Rattle.why.specs.Decimal.{decimal}
 

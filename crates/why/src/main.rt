@@ -8,91 +8,57 @@ mod explaining;
 mod sentences;
 mod text;
 
-ghost use Rattle.std.specs.Prelude.{◌≡◌, length};
-
-use crate::arguments::{Arguments, Asked, read_arguments, tell_wrong};
+use crate::arguments::{Asked, read_arguments};
 use crate::explaining::explain_part;
 use crate::sentences::say_reply;
 use crate::text::say_why;
-use part::{read_full, say, say_error};
-use std::env::Env;
-use std::fs;
-use std::io::{Error, ErrorKind, Read};
+use part::{read_full, tell_wrong, with_source, zeros};
+use std::io;
+use std::io::Read;
+
+// One more byte than a font part has.
+const READ: usize = 65537;
+
+const EXPECTED: &str = "why [--words] [FILE]; without FILE the font part comes on standard input. \
+    With --words the answer is in sentences.";
 
 fn main(rt: HostRuntime) {
     match read_arguments(&rt) {
-        Arguments::Asked(asked) => answer_asked(&rt, asked),
-        Arguments::Wrong(i) => tell_wrong(&rt, &rt.stderr(), i),
+        Ok(asked) => with_source(
+            &rt,
+            "why",
+            asked.file,
+            |from| answer_input(&rt, from, asked),
+        ),
+        Err(wrong) => tell_wrong(&rt, &rt.stderr(), "why", wrong, EXPECTED),
     }
-}
-
-fn answer_asked(rt: &HostRuntime, asked: Asked) {
-    let file = asked.file;
-    if file == 0 {
-        answer_from(rt, &mut rt.stdin(), b"standard input", asked.words);
-        return;
-    }
-    let mut path = io::buffer();
-    let n = rt.arg(file, &mut path).unwrap_or(0);
-    // (a path of today's std is text)
-    let Ok(name) = str::from_utf8(&path[..n]) else {
-        tell_failed(
-            &rt.stderr(),
-            &path[..n],
-            Error::from(ErrorKind::InvalidFilename),
-        );
-        return;
-    };
-    match fs::open(rt, name) {
-        Ok(mut input) => answer_from(rt, &mut input, name.as_bytes(), asked.words),
-        Err(error) => tell_failed(&rt.stderr(), name.as_bytes(), error),
-    }
-}
-
-// Says why a call on this input failed.
-fn tell_failed<P: Print>(err: &P, name: &[u8], error: Error) {
-    say(err, b"why: ");
-    say(err, name);
-    say(err, b": ");
-    say_error(err, error);
-    say(err, b"\n");
 }
 
 // Reads the font part and answers it; what comes behind so many bytes changes nothing. One more read
 // tells a shorter input's end from a read that failed.
-fn answer_from<R: Read>(rt: &HostRuntime, from: &mut R, name: &[u8], words: bool) {
-    let mut input = longest();
+fn answer_input<R: Read>(rt: &HostRuntime, from: &mut R, asked: Asked) -> io::Result<()> {
+    let mut input = zeros::<READ>();
     let n = read_full(from, &mut input);
-    if n < 65537 {
-        let mut more = [0u8; 1];
-        if let Err(error) = from.read(&mut more) {
-            tell_failed(&rt.stderr(), name, error);
-            return;
-        }
+    if n < READ {
+        from.read(&mut [0u8; 1])?;
     }
-    if words {
+    if asked.words {
         answer_in_words(&rt.stdout(), &input[..n]);
     } else {
         answer_part(&rt.stdout(), &input[..n]);
     }
+    Ok(())
 }
 
 fn answer_part<P: Print>(out: &P, part: &[u8]) {
-    let mut text = io::buffer();
+    let mut text = [0u8; 4096];
     let n = say_why(part, &mut text);
-    say(out, &text[..n]);
+    let _ = out.write_all(&text[..n]);
 }
 
 fn answer_in_words<P: Print>(out: &P, part: &[u8]) {
+    // three words a call, as `explain` tells C
     let mut words = [0u64; 192];
     let reply = explain_part(part, &mut words);
     say_reply(out, reply, part.len(), &words);
-}
-
-// 65,537 zeros: one more than a font part has. The `ensures` gives only the length, which lending the
-// array as a slice needs.
-fn longest() -> [u8; 65537]
-    ensures { 65537 ≡ length result }
-{
-    [0; 65537]
 }

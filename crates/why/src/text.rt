@@ -1,65 +1,80 @@
-// What is printed, put into bytes that are lent: an answer's line, and a line for each open call.
-ghost use Rattle.std.specs.Prelude.{◌≡◌, [], ◌∷◌, ◌++◌, ◌+◌, ◌*◌, ◌≤◌, length, drop};
+// What is printed: an answer's line, and a line for each open call.
+ghost use Rattle.std.specs.Prelude.{◌≡◌, Err, [], ◌∷◌, ◌++◌, ◌+◌, ◌*◌, ◌<◌, ◌≤◌, length, drop};
 ghost use Rattle.io.specs.Counts.{IsPrefixLen};
 ghost use Rattle.number.specs.Answer.{tokens_or};
 ghost use Rattle.reading.specs.Answers.{flattened, stop_values};
 ghost use Rattle.why.specs.Decimal.{decimal};
 ghost use Rattle.why.specs.Why.{pair_line, answer_line, said};
-ghost use Rattle.why.specs.Code.{replied, calls_in, tokens_in, Put, word_letter, word_line, word_lines, text_of};
+ghost use Rattle.why.specs.Code.{tokens_in, word_letter, word_line, word_lines};
 
-use crate::explaining::{Reply, explain_part};
-use reading::{Flattened, Stopped};
+use crate::explaining::explain_part;
+use arrayvec::ArrayString;
+use number::Refuse;
+use reading::{Flat, FlattenError, Stopped};
 
-// Puts what is printed for these bytes at the start of out, and answers how many bytes that is.
+// 4,096 bytes hold an answer's line and those of 63 calls.
+type Text = ArrayString<4096>;
+
+/// Puts what is printed for these bytes at the start of out, and answers how many bytes that is.
+// (out is lent, for the contract and its theorem say what is left there)
 pub(crate) fn say_why(part: &[u8], out: &mut [u8]) -> usize
     requires { 4096 ≤ length out.old }
     ensures value { result ≡ length (said part.now) }
     ensures out_after { out.new ≡ said part.now ++ drop result out.old }
     ensures prefix_len { IsPrefixLen result out.new }
 {
+    let text = why_text(part);
+    let bytes = text.as_str().as_bytes();
+    let n = bytes.len();
+    out[..n].copy_from_slice(bytes);
+    n
+}
+
+// What is printed for these bytes.
+fn why_text(part: &[u8]) -> Text
+    ensures { result.bytes ≡ said part.now }
+{
+    let mut text = Text::new();
+    // three words a call, as `explain` tells C
     let mut words = [0u64; 192];
-    let reply = explain_part(part, &mut words);
-    put_reply(out, reply, &words)
-}
-
-// Puts a reply's lines, of which the calls' are those of the words.
-fn put_reply(out: &mut [u8], reply: Reply, words: &[u64]) -> usize
-    requires { (4096 ≤ length out.old) × (calls_in reply ≤ 63) × (189 ≤ length words.now) }
-    ensures { Put out.old 0 (text_of (replied reply) (calls_in reply) words.now) 4096 result out.new }
-{
-    let Reply::Told(answer, calls) = reply else {
-        return put_pair(out, 0, reply.number() as u64, 0);
-    };
-    let next = put_answer(out, answer);
-    put_calls(out, next, words, calls)
-}
-
-// Puts the line of an answer at the start of out.
-fn put_answer(out: &mut [u8], answer: Flattened) -> usize
-    requires { 42 ≤ length out.old }
-    ensures { Put out.old 0 (answer_line (flattened answer)) 42 result out.new }
-{
-    if let Flattened::Accepted(_, _, _) = answer {
-        let next = put_byte(out, 0, b'0');
-        return put_byte(out, next, b'\n');
+    match explain_part(part, &mut words) {
+        Ok(explained) => {
+            put_answer(&mut text, explained.verdict);
+            put_calls(&mut text, &words, explained.calls);
+        }
+        Err(why) => put_pair(&mut text, u64::from(why.number()), 0),
     }
-    put_pair(out, 0, answer.number() as u64, tokens_of(answer) as u64)
+    text
 }
 
-// The tokens that come with an answer, or 0.
-fn tokens_of(answer: Flattened) -> u32
-    ensures { result ≡ tokens_in (flattened answer) }
+// Adds the line of an answer.
+#[tactic(auto, using(crate::proofs::TextLaws::accepted_added, crate::proofs::TextLaws::refused_added))]
+fn put_answer(text: &mut Text, answer: Result<Flat, FlattenError>)
+    requires { length text.old.bytes + 42 ≤ 4096 }
+    ensures added { text.new.bytes ≡ text.old.bytes ++ answer_line (flattened answer) }
+    ensures short { length text.new.bytes ≤ length text.old.bytes + 42 }
 {
     match answer {
-        Flattened::Accepted(_, tokens, _) => tokens,
-        Flattened::BadGlobals(_) => 0,
-        Flattened::BadLocals(_) => 0,
-        Flattened::Refused(why) => stop_tokens(why),
-        Flattened::NoRoom(_, tokens) => tokens,
+        Ok(_) => text.push_str("0\n"),
+        Err(why) => put_pair(text, u64::from(why.number()), u64::from(tokens_of(why))),
     }
 }
 
-fn stop_tokens(why: Stopped) -> u32
+// The tokens that come with a refusal, or 0.
+#[tactic(auto, unfolding(number::specs::Answer::tokens_or))]
+fn tokens_of(why: FlattenError) -> u32
+    ensures { result ≡ tokens_in (flattened (Err why)) }
+{
+    match why {
+        FlattenError::BadGlobals(_) => 0,
+        FlattenError::BadLocals(_) => 0,
+        FlattenError::Refused(why) => stop_tokens(why),
+        FlattenError::NoRoom { tokens, .. } => tokens,
+    }
+}
+
+#[tactic(auto, unfolding(number::specs::Answer::tokens_or))]
+pub(crate) fn stop_tokens(why: Stopped) -> u32
     ensures { result ≡ tokens_or 0 (stop_values why) }
 {
     match why {
@@ -68,76 +83,57 @@ fn stop_tokens(why: Stopped) -> u32
     }
 }
 
-// Puts a line for each call from `at` on; where they end.
-fn put_calls(out: &mut [u8], at: usize, words: &[u64], calls: usize) -> usize
-    requires { (at + 44 * calls ≤ length out.old) × (3 * calls ≤ length words.now) }
-    ensures { Put out.old at (word_lines calls words.now) (44 * calls) result out.new }
+// Adds a line for each call.
+#[tactic(auto, using(crate::proofs::TextLaws::lines_begun, crate::proofs::TextLaws::lines_begun_next))]
+fn put_calls(text: &mut Text, words: &[u64], calls: usize)
+    requires fits { length text.old.bytes + 44 * calls ≤ 4096 }
+    requires enough { 3 * calls ≤ length words.now }
+    ensures { text.new.bytes ≡ text.old.bytes ++ word_lines calls words.now }
 {
-    let mut end = at;
-    let mut i = 0;
-    while i < calls {
+    for i in 0..calls {
         let w = 3 * i;
-        end = put_call(out, end, words[w], words[w + 1], words[w + 2]);
-        i += 1;
+        put_call(text, words[w], words[w + 1], words[w + 2]);
     }
-    end
 }
 
-// Puts the line of one call.
-fn put_call(out: &mut [u8], at: usize, list: u64, entry: u64, offset: u64) -> usize
-    requires { at + 44 ≤ length out.old }
-    ensures { Put out.old at (word_line list entry offset) 44 result out.new }
+// Adds the line of one call.
+#[tactic(auto, using(crate::proofs::TextLaws::call_added))]
+fn put_call(text: &mut Text, list: u64, entry: u64, offset: u64)
+    requires { length text.old.bytes + 44 ≤ 4096 }
+    ensures added { text.new.bytes ≡ text.old.bytes ++ word_line list entry offset }
+    ensures short { length text.new.bytes ≤ length text.old.bytes + 44 }
 {
-    let behind = put_byte(out, at, letter_of(list));
-    let next = put_byte(out, behind, b' ');
-    put_pair(out, next, entry, offset)
+    text.push(letter_of(list));
+    text.push(' ');
+    put_pair(text, entry, offset);
 }
 
-fn letter_of(list: u64) -> u8
+fn letter_of(list: u64) -> char
     ensures { result ≡ word_letter list }
 {
-    if list == 0 {
-        return b'L';
-    }
-    b'G'
+    if list == 0 { 'L' } else { 'G' }
 }
 
-// Puts two numbers, a space between them, and the line's end.
-fn put_pair(out: &mut [u8], at: usize, a: u64, b: u64) -> usize
-    requires { at + 42 ≤ length out.old }
-    ensures { Put out.old at (pair_line a b) 42 result out.new }
+// Adds two numbers, a space between them, and the line's end.
+#[tactic(auto, using(crate::proofs::TextLaws::pair_added))]
+fn put_pair(text: &mut Text, a: u64, b: u64)
+    requires { length text.old.bytes + 42 ≤ 4096 }
+    ensures added { text.new.bytes ≡ text.old.bytes ++ pair_line a b }
+    ensures short { length text.new.bytes ≤ length text.old.bytes + 42 }
 {
-    let first = put_decimal(out, at, a);
-    let next = put_byte(out, first, b' ');
-    let second = put_decimal(out, next, b);
-    put_byte(out, second, b'\n')
+    put_decimal(text, a, ' ');
+    put_decimal(text, b, '\n');
 }
 
-fn put_decimal(out: &mut [u8], at: usize, n: u64) -> usize
-    requires { at + 20 ≤ length out.old }
-    ensures { Put out.old at (decimal n) 20 result out.new }
+// Adds a number, and what stands behind it.
+#[tactic(auto, using(crate::proofs::TextLaws::decimal_added))]
+fn put_decimal(text: &mut Text, n: u64, end: char)
+    requires ascii { end < 128 }
+    requires fits { length text.old.bytes + 21 ≤ 4096 }
+    ensures added { text.new.bytes ≡ text.old.bytes ++ (decimal n ++ end ∷ []) }
+    ensures short { length text.new.bytes ≤ length text.old.bytes + 21 }
 {
-    let mut text = [0u8; 20];
-    let k = io::decimal(n, &mut text);
-    put_bytes(out, at, &text[..k])
-}
-
-fn put_bytes(out: &mut [u8], at: usize, bytes: &[u8]) -> usize
-    requires { at + length bytes.now ≤ length out.old }
-    ensures { Put out.old at bytes.now (length bytes.now) result out.new }
-{
-    let mut i = 0;
-    while i < bytes.len() {
-        out[at + i] = bytes[i];
-        i += 1;
-    }
-    at + bytes.len()
-}
-
-fn put_byte(out: &mut [u8], at: usize, b: u8) -> usize
-    requires { at + 1 ≤ length out.old }
-    ensures { Put out.old at (b ∷ []) 1 result out.new }
-{
-    out[at] = b;
-    at + 1
+    let mut digits = itoa::Buffer::new();
+    text.push_str(digits.format(n));
+    text.push(end);
 }
