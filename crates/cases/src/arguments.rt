@@ -1,103 +1,96 @@
-// A record's arguments: numbers at known places, and then `bytes`, each a 4-byte length and so many
-// bytes. An operation first tests by `shaped` that the arguments fill the record. Every function
-// here answers wherever it is asked.
-use number::{Big, Operand};
+// A record's arguments, taken one after the other from its front.
+use number::Operand;
+use reading::Profile;
 
-// An argument of one byte that is 0 or 1: a kind or a profile.
-#[derive(Drop)]
-pub(crate) enum Flag {
-    Is(bool),
-    Neither,
+// What is left of a record. Each method takes what it answers, and answers None where that is not what stands next:
+// the record then asks for nothing, and what is left is read no more.
+#[derive(Clone, Copy, Debug)]
+pub(crate) struct Arguments<'a> {
+    left: &'a [u8],
 }
 
-// An operand, of which the kind is such a flag.
-#[derive(Drop)]
-pub(crate) enum Given {
-    Operand(Operand),
-    Neither,
-}
+impl<'a> Arguments<'a> {
+    pub(crate) fn new(record: &'a [u8]) -> Self {
+        Arguments { left: record }
+    }
 
-// Whether s is `numbers` bytes and then `count` times `bytes`, and nothing more.
-pub(crate) fn shaped(s: &[u8], numbers: usize, count: usize) -> bool {
-    let mut at = numbers;
-    let mut left = count;
-    while 0 < left {
-        at = past_bytes(s, at);
-        left -= 1;
+    pub(crate) fn byte(&mut self) -> Option<u8> {
+        let (first, rest) = self.left.split_first()?;
+        self.left = rest;
+        Some(*first)
     }
-    at == s.len()
-}
 
-// Where the `bytes` at a place end; usize::MAX, which is past every slice, where s has not so many.
-pub(crate) fn past_bytes(s: &[u8], at: usize) -> usize {
-    if s.len() < 4 {
-        return usize::MAX;
+    // A byte that is 0 or 1.
+    pub(crate) fn flag(&mut self) -> Option<bool> {
+        match self.byte()? {
+            0 => Some(false),
+            1 => Some(true),
+            _ => None,
+        }
     }
-    if s.len() - 4 < at {
-        return usize::MAX;
-    }
-    let from = at + 4;
-    let n = word_at(s, at) as usize;
-    if s.len() - from < n {
-        return usize::MAX;
-    }
-    from + n
-}
 
-// The `bytes` at a place, or as many of them as s has.
-pub(crate) fn bytes_at(s: &[u8], at: usize) -> &[u8] {
-    if s.len() < 4 {
-        return &s[..0];
+    pub(crate) fn profile(&mut self) -> Option<Profile> {
+        let strict = self.flag()?;
+        Some(if strict {
+            Profile::Strict
+        } else {
+            Profile::Plain
+        })
     }
-    if s.len() - 4 < at {
-        return &s[..0];
-    }
-    first(word_at(s, at) as usize, &s[at + 4..])
-}
 
-// The first n bytes of s, or all where there are fewer.
-pub(crate) fn first(n: usize, s: &[u8]) -> &[u8] {
-    if n <= s.len() {
-        return &s[0..n];
+    // A number of four bytes.
+    pub(crate) fn word(&mut self) -> Option<u32> {
+        let (four, rest) = self.left.split_first_chunk::<4>()?;
+        self.left = rest;
+        Some(u32::from_be_bytes(*four))
     }
-    s
-}
 
-// The number of four bytes at a place, and 0 where s does not reach so far.
-pub(crate) fn word_at(s: &[u8], at: usize) -> u32 {
-    match number::read_be(s, at, 4) {
-        Big::Value(v) => v,
-        Big::Lacking => 0,
+    pub(crate) fn signed(&mut self) -> Option<i32> {
+        Some(self.word()?.cast_signed())
     }
-}
 
-// The same four bytes as a signed number.
-pub(crate) fn signed_at(s: &[u8], at: usize) -> i32 {
-    number::value_of(word_at(s, at))
-}
+    // A number of four bytes that counts bytes, words or glyphs.
+    pub(crate) fn size(&mut self) -> Option<usize> {
+        // (`as`: std has no `From` from `u32` to `usize`)
+        Some(self.word()? as usize)
+    }
 
-// The flag at a place.
-pub(crate) fn flag_at(s: &[u8], at: usize) -> Flag {
-    if s.len() <= at {
-        return Flag::Neither;
+    // Its kind, 1 for a Fixed, and its value.
+    pub(crate) fn operand(&mut self) -> Option<Operand> {
+        let fixed = self.flag()?;
+        let value = self.signed()?;
+        Some(if fixed {
+            Operand::Fixed(value)
+        } else {
+            Operand::Integer(value)
+        })
     }
-    match s[at] {
-        0 => Flag::Is(false),
-        1 => Flag::Is(true),
-        _ => Flag::Neither,
-    }
-}
 
-// The operand at a place: its kind, 1 for a Fixed, and its value.
-pub(crate) fn operand_at(s: &[u8], at: usize) -> Given {
-    if s.len() <= at {
-        return Given::Neither;
+    // A size and so many bytes.
+    pub(crate) fn bytes(&mut self) -> Option<&'a [u8]> {
+        let n = self.size()?;
+        self.take(n)
     }
-    let Flag::Is(fixed) = flag_at(s, at) else {
-        return Given::Neither;
-    };
-    Given::Operand(Operand {
-        fixed: fixed,
-        value: signed_at(s, at + 1),
-    })
+
+    // A size and so many numbers of four bytes, which are put into the room.
+    pub(crate) fn words(&mut self, room: &'a mut [u32]) -> Option<&'a [u32]> {
+        let n = self.size()?;
+        let (fours, _) = self.take(n.checked_mul(4)?)?.as_chunks::<4>();
+        let words = room.get_mut(..n)?;
+        for (word, four) in words.iter_mut().zip(fours) {
+            *word = u32::from_be_bytes(*four);
+        }
+        Some(words)
+    }
+
+    // The record ends here.
+    pub(crate) fn end(self) -> Option<()> {
+        if self.left.is_empty() { Some(()) } else { None }
+    }
+
+    fn take(&mut self, n: usize) -> Option<&'a [u8]> {
+        let (bytes, rest) = self.left.split_at_checked(n)?;
+        self.left = rest;
+        Some(bytes)
+    }
 }

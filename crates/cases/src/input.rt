@@ -1,61 +1,56 @@
 // The input, cut into records.
-ghost use Rattle.std.specs.Prelude.{◌≤◌};
-
-use crate::arguments::word_at;
-use part::read_full;
+use std::io;
 use std::io::Read;
 
-// What stands next.
+// The input ended inside a record.
+#[derive(Clone, Copy, Debug)]
+pub(crate) struct Broken;
+
+// A read that fails counts as the end of the input.
+impl From<io::Error> for Broken {
+    fn from(_: io::Error) -> Broken {
+        Broken
+    }
+}
+
+// The limit of a record's N is the length of the buffer.
 #[derive(Drop)]
-pub(crate) enum Next {
-    // A record of so many bytes, now at the start of the buffer. One that is longer than the buffer
-    // is passed over and counts as one of no bytes, which asks for nothing either.
-    Record(usize),
-    // The input ended inside a record.
-    Broken,
-    // The input ended where a record would start.
-    End,
+pub(crate) struct Input<R> {
+    input: R,
+    buffer: [u8; 1048576],
 }
 
-// Reads the next record into the buffer. A read that fails counts as the end of the input.
-pub(crate) fn next_record<R: Read>(input: &mut R, buffer: &mut [u8]) -> Next {
-    let mut head = [0u8; 4];
-    let got = read_full(input, &mut head);
-    if got == 0 {
-        return Next::End;
-    }
-    if got < 4 {
-        return Next::Broken;
-    }
-    let n = word_at(&head, 0) as usize;
-    if buffer.len() < n {
-        return pass_over(input, n, buffer);
-    }
-    if read_up_to(input, n, buffer) < n {
-        return Next::Broken;
-    }
-    Next::Record(n)
-}
-
-// Reads a record of n bytes and keeps none.
-fn pass_over<R: Read>(input: &mut R, n: usize, buffer: &mut [u8]) -> Next {
-    let mut left = n;
-    while 0 < left {
-        let got = read_up_to(input, left, buffer);
-        if got == 0 {
-            return Next::Broken;
+impl<R: Read> Input<R> {
+    pub(crate) fn new(input: R) -> Self {
+        Input {
+            input,
+            buffer: [0; 1048576],
         }
-        left -= got;
     }
-    Next::Record(0)
+
+    // Reads the next record, or answers None where the input ended before it. One that is longer than the buffer is
+    // passed over and counts as one of no bytes, which asks for nothing either.
+    pub(crate) fn next_record(&mut self) -> Result<Option<&[u8]>, Broken> {
+        let Input { input, buffer } = self;
+        let mut head = [0; 4];
+        let got = input.read(&mut head).unwrap_or(0);
+        if got == 0 {
+            return Ok(None);
+        }
+        input.read_exact(&mut head[got..])?;
+        let n = u32::from_be_bytes(head);
+        let Some(record) = buffer.get_mut(..n as usize) else {
+            pass_over(input, n)?;
+            return Ok(Some(&[]));
+        };
+        input.read_exact(record)?;
+        Ok(Some(record))
+    }
 }
 
-// Reads n bytes to the start of the buffer, or as many as it holds or the input has.
-fn read_up_to<R: Read>(input: &mut R, n: usize, buffer: &mut [u8]) -> usize
-    ensures { result ≤ n }
-{
-    if n <= buffer.len() {
-        return read_full(input, &mut buffer[0..n]);
-    }
-    read_full(input, buffer)
+// Reads n bytes and keeps none.
+fn pass_over<R: Read>(input: &mut R, n: u32) -> Result<(), Broken> {
+    let n = u64::from(n);
+    let passed = io::copy(&mut input.take(n), &mut io::sink())?;
+    if passed == n { Ok(()) } else { Err(Broken) }
 }
