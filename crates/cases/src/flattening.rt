@@ -77,9 +77,9 @@ pub(crate) fn flatten_marked<'a>(mut args: Arguments<'a>, lent: &'a mut Lent) ->
         locals_row,
         ..
     } = lent;
-    let room = lend(room, asked.size, LENT)?;
     let globals = lend_row(globals_row, globals_before)?;
     let locals = lend_row(locals_row, locals_before)?;
+    let room = lend(room, asked.size, LENT)?;
     let answer = charstring::flatten_marked(
         strings.charstring,
         strings.globals,

@@ -25,8 +25,9 @@ pub(crate) fn write_index<'a>(mut args: Arguments<'a>, lent: &'a mut Lent) -> Op
     let Lent { lengths, room, .. } = lent;
     let lengths = args.words(lengths)?;
     let joined = args.bytes()?;
-    let room = lend(room, args.size()?, LENT)?;
+    let size = args.size()?;
     args.end()?;
+    let room = lend(room, size, LENT)?;
     let answer = index_writing::write_index(lengths, joined, room);
     Some(Line::written(answer, room))
 }

@@ -1,17 +1,10 @@
 // The input, cut into records.
-use std::io;
+use part::read_full;
 use std::io::Read;
 
 // The input ended inside a record.
 #[derive(Clone, Copy, Debug)]
 pub(crate) struct Broken;
-
-// A read that fails counts as the end of the input.
-impl From<io::Error> for Broken {
-    fn from(_: io::Error) -> Broken {
-        Broken
-    }
-}
 
 // The limit of a record's N is the length of the buffer.
 #[derive(Drop)]
@@ -29,28 +22,40 @@ impl<R: Read> Input<R> {
     }
 
     // Reads the next record, or answers None where the input ended before it. One that is longer than the buffer is
-    // passed over and counts as one of no bytes, which asks for nothing either.
+    // passed over and counts as one of no bytes, which asks for nothing either. A read that fails counts as the end of
+    // the input. (no `read_exact`: it would try an interrupted read again)
     pub(crate) fn next_record(&mut self) -> Result<Option<&[u8]>, Broken> {
         let Input { input, buffer } = self;
         let mut head = [0; 4];
-        let got = input.read(&mut head).unwrap_or(0);
-        if got == 0 {
-            return Ok(None);
+        match read_full(input, &mut head) {
+            0 => return Ok(None),
+            4 => {}
+            _ => return Err(Broken),
         }
-        input.read_exact(&mut head[got..])?;
-        let n = u32::from_be_bytes(head);
-        let Some(record) = buffer.get_mut(..n as usize) else {
-            pass_over(input, n)?;
+        // (`as`: std has no `From` from `u32` to `usize`)
+        let n = u32::from_be_bytes(head) as usize;
+        if buffer.len() < n {
+            pass_over(input, n, buffer)?;
             return Ok(Some(&[]));
-        };
-        input.read_exact(record)?;
+        }
+        let record = &mut buffer[..n];
+        if read_full(input, record) < n {
+            return Err(Broken);
+        }
         Ok(Some(record))
     }
 }
 
-// Reads n bytes and keeps none.
-fn pass_over<R: Read>(input: &mut R, n: u32) -> Result<(), Broken> {
-    let n = u64::from(n);
-    let passed = io::copy(&mut input.take(n), &mut io::sink())?;
-    if passed == n { Ok(()) } else { Err(Broken) }
+// Reads n bytes, a buffer's at a time, and keeps none.
+fn pass_over<R: Read>(input: &mut R, n: usize, buffer: &mut [u8]) -> Result<(), Broken> {
+    let mut left = n;
+    while 0 < left {
+        let most = left.min(buffer.len());
+        let got = read_full(input, &mut buffer[..most]);
+        if got == 0 {
+            return Err(Broken);
+        }
+        left -= got;
+    }
+    Ok(())
 }

@@ -26,8 +26,9 @@ pub(crate) fn write_charstring_number<'a>(
     lent: &'a mut Lent,
 ) -> Option<Line<'a>> {
     let operand = args.operand()?;
-    let room = lend(&mut lent.room, args.size()?, LENT)?;
+    let size = args.size()?;
     args.end()?;
+    let room = lend(&mut lent.room, size, LENT)?;
     let answer = number::write_charstring_number(operand, room);
     Some(Line::written(answer, room))
 }
@@ -38,8 +39,9 @@ pub(crate) fn write_dict_integer<'a>(
     lent: &'a mut Lent,
 ) -> Option<Line<'a>> {
     let value = args.signed()?;
-    let room = lend(&mut lent.room, args.size()?, LENT)?;
+    let size = args.size()?;
     args.end()?;
+    let room = lend(&mut lent.room, size, LENT)?;
     let answer = number::write_dict_integer(value, room);
     Some(Line::written(answer, room))
 }
