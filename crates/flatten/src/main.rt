@@ -10,7 +10,7 @@ mod flattening;
 use crate::answer::{tell, tell_no_part};
 use crate::arguments::{Asked, read_arguments};
 use crate::flattening::flatten_part;
-use part::{read_full, say, tell_wrong, with_source, zeros};
+use part::{Answer, read_full, say, tell_wrong, with_source, zeros};
 use std::io;
 use std::io::Read;
 
@@ -23,33 +23,33 @@ const EXPECTED: &str = "flatten [--font] [--strict] [--budget N] [FILE], \
 
 fn main(rt: HostRuntime) {
     match read_arguments(&rt) {
-        Ok(asked) => with_source(
-            &rt,
-            "flatten",
-            asked.file,
-            |from| answer_input(&rt, from, asked),
-        ),
+        Ok(asked) => with_source(&rt, "flatten", asked.file, &asked),
         Err(wrong) => tell_wrong(&rt, &rt.stderr(), "flatten", wrong, EXPECTED),
     }
 }
 
-// Reads the font part and answers it. One more read tells a longer input from its end, and a read
-// that failed from both.
-fn answer_input<R: Read>(rt: &HostRuntime, from: &mut R, asked: Asked) -> io::Result<()> {
-    let mut input = zeros::<LIMIT>();
-    let n = read_full(from, &mut input);
-    let mut more = [0u8; 1];
-    if from.read(&mut more)? == 0 {
-        answer_part(rt, &input[..n], asked);
-    } else {
-        say(
-            &rt.stderr(),
-            "flatten: the input is too long: a font part of more than 1048576 bytes is not taken.\n",
-        );
+impl Answer for Asked {
+    // Reads the font part and answers it. One more read tells a longer input from its end, and a read
+    // that failed from both.
+    #[inline(never)]
+    fn answer<R: Read>(&self, rt: &HostRuntime, from: &mut R) -> io::Result<()> {
+        let mut input = zeros::<LIMIT>();
+        let n = read_full(from, &mut input);
+        let mut more = [0u8; 1];
+        if from.read(&mut more)? == 0 {
+            answer_part(rt, &input[..n], *self);
+        } else {
+            say(
+                &rt.stderr(),
+                "flatten: the input is too long: a font part of more than 1048576 bytes is not taken.\n",
+            );
+        }
+        Ok(())
     }
-    Ok(())
 }
 
+// (not inlined: the room stands on the stack only where there is a part to answer)
+#[inline(never)]
 fn answer_part(rt: &HostRuntime, part: &[u8], asked: Asked) {
     let mut room = zeros::<LIMIT>();
     match flatten_part(part, asked.whole, asked.profile, asked.budget, &mut room) {

@@ -12,7 +12,7 @@ use crate::arguments::{Asked, read_arguments};
 use crate::explaining::explain_part;
 use crate::sentences::say_reply;
 use crate::text::say_why;
-use part::{read_full, tell_wrong, with_source, zeros};
+use part::{Answer, read_full, tell_wrong, with_source, zeros};
 use std::io;
 use std::io::Read;
 
@@ -24,30 +24,27 @@ const EXPECTED: &str = "why [--words] [FILE]; without FILE the font part comes o
 
 fn main(rt: HostRuntime) {
     match read_arguments(&rt) {
-        Ok(asked) => with_source(
-            &rt,
-            "why",
-            asked.file,
-            |from| answer_input(&rt, from, asked),
-        ),
+        Ok(asked) => with_source(&rt, "why", asked.file, &asked),
         Err(wrong) => tell_wrong(&rt, &rt.stderr(), "why", wrong, EXPECTED),
     }
 }
 
-// Reads the font part and answers it; what comes behind so many bytes changes nothing. One more read
-// tells a shorter input's end from a read that failed.
-fn answer_input<R: Read>(rt: &HostRuntime, from: &mut R, asked: Asked) -> io::Result<()> {
-    let mut input = zeros::<READ>();
-    let n = read_full(from, &mut input);
-    if n < READ {
-        from.read(&mut [0u8; 1])?;
+impl Answer for Asked {
+    // Reads the font part and answers it; what comes behind so many bytes changes nothing. One more read
+    // tells a shorter input's end from a read that failed.
+    fn answer<R: Read>(&self, rt: &HostRuntime, from: &mut R) -> io::Result<()> {
+        let mut input = zeros::<READ>();
+        let n = read_full(from, &mut input);
+        if n < READ {
+            from.read(&mut [0u8; 1])?;
+        }
+        if self.words {
+            answer_in_words(&rt.stdout(), &input[..n]);
+        } else {
+            answer_part(&rt.stdout(), &input[..n]);
+        }
+        Ok(())
     }
-    if asked.words {
-        answer_in_words(&rt.stdout(), &input[..n]);
-    } else {
-        answer_part(&rt.stdout(), &input[..n]);
-    }
-    Ok(())
 }
 
 fn answer_part<P: Print>(out: &P, part: &[u8]) {
