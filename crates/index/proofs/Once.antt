@@ -41,6 +41,12 @@ use Rattle.index.proofs.entry.part_in.Kinds as part_in_kinds
 use Rattle.index.proofs.entry.part_in.Reads as part_in_reads
 use Rattle.index.proofs.list.check_list.Kinds as formed_kinds
 use Rattle.index.proofs.list.check_list.Reads as formed_reads
+use Rattle.index.proofs.entry.EntryErrorFromIndexError.from.Kinds as index_from_kinds
+use Rattle.index.proofs.entry.EntryErrorFromIndexError.from.Reads as index_from_reads
+use Rattle.index.proofs.entry.EntryErrorFromAbsence.from.Kinds as absence_from_kinds
+use Rattle.index.proofs.entry.EntryErrorFromAbsence.from.Reads as absence_from_reads
+use Rattle.index.proofs.list.FlawFromIndexError.from.Kinds as flaw_from_kinds
+use Rattle.index.proofs.list.FlawFromIndexError.from.Reads as flaw_from_reads
 
 -- what has a way back tells values apart
 one : {A B : Type 0} (say : A → B) (back : B → A) → ((a : A) → back (say a) ≡ a) → (r r' : A) → say r ≡ say r' → r ≡ r'
@@ -118,6 +124,18 @@ pub flaw_number_once : (κs : Lfts 0) (a : Dens κs flaw_number_kinds.ps) (r r' 
     (x x' : AtExit (ended_of 0 flaw_number_kinds.ps flaw_number_kinds.r) κs)
     → flaw_number_reads.Post κs a r x → flaw_number_reads.Post κs a r' x' → r ≡ r'
 flaw_number_once κs a r r' x x' p p' = p ∙ sym p'
+
+pub entry_from_index_once : (κs : Lfts 0) (a : Dens κs index_from_kinds.ps) (r r' : (res_t index_from_kinds.r κs).Denot)
+    (x x' : AtExit (ended_of 0 index_from_kinds.ps index_from_kinds.r) κs) → index_from_reads.Post κs a r x → index_from_reads.Post κs a r' x' → r ≡ r'
+entry_from_index_once κs a r r' x x' p p' = p ∙ sym p'
+
+pub entry_from_absence_once : (κs : Lfts 0) (a : Dens κs absence_from_kinds.ps) (r r' : (res_t absence_from_kinds.r κs).Denot)
+    (x x' : AtExit (ended_of 0 absence_from_kinds.ps absence_from_kinds.r) κs) → absence_from_reads.Post κs a r x → absence_from_reads.Post κs a r' x' → r ≡ r'
+entry_from_absence_once κs a r r' x x' p p' = p ∙ sym p'
+
+pub flaw_from_once : (κs : Lfts 0) (a : Dens κs flaw_from_kinds.ps) (r r' : (res_t flaw_from_kinds.r κs).Denot)
+    (x x' : AtExit (ended_of 0 flaw_from_kinds.ps flaw_from_kinds.r) κs) → flaw_from_reads.Post κs a r x → flaw_from_reads.Post κs a r' x' → r ≡ r'
+flaw_from_once κs a r r' x x' p p' = p ∙ sym p'
 
 module _ (κs : Lfts 1) where
   pub read_index_once : (a : Dens κs index_kinds.ps) (r r' : (res_t index_kinds.r κs).Denot) (x x' : AtExit (ended_of 1 index_kinds.ps index_kinds.r) κs)

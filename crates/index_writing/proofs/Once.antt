@@ -20,6 +20,8 @@ use Rattle.index_writing.proofs.TooLongRefuse.number.Kinds as plan_number_kinds
 use Rattle.index_writing.proofs.TooLongRefuse.number.Reads as plan_number_reads
 use Rattle.index_writing.proofs.plan_index.Kinds as plan_kinds
 use Rattle.index_writing.proofs.plan_index.Reads as plan_reads
+use Rattle.index_writing.proofs.WriteErrorFromTooLong.from.Kinds as write_from_kinds
+use Rattle.index_writing.proofs.WriteErrorFromTooLong.from.Reads as write_from_reads
 use Rattle.index_writing.proofs.write_index.Kinds as kinds
 use Rattle.index_writing.proofs.write_index.Reads as reads
 
@@ -65,3 +67,9 @@ plan_number_once κs a r r' x x' p p' = p ∙ sym p'
 pub plan_index_once : (κs : Lfts 0) (a : Dens κs plan_kinds.ps) (r r' : (res_t plan_kinds.r κs).Denot)
     (x x' : AtExit (ended_of 0 plan_kinds.ps plan_kinds.r) κs) → plan_reads.Post κs a r x → plan_reads.Post κs a r' x' → r ≡ r'
 plan_index_once κs a r r' x x' p p' = sym (plan_undo r) ∙ ap plan_of (p ∙ sym p') ∙ plan_undo r'
+
+-- ---- an error that comes of another
+
+pub write_from_once : (κs : Lfts 0) (a : Dens κs write_from_kinds.ps) (r r' : (res_t write_from_kinds.r κs).Denot)
+    (x x' : AtExit (ended_of 0 write_from_kinds.ps write_from_kinds.r) κs) → write_from_reads.Post κs a r x → write_from_reads.Post κs a r' x' → r ≡ r'
+write_from_once κs a r r' x x' p p' = p ∙ sym p'
