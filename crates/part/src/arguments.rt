@@ -2,7 +2,7 @@
 ghost use Rattle.std.specs.Prelude.{◌≡◌, ◌<◌, ◌≤◌, length, IfOk, IfSome};
 ghost use Rattle.part.specs.Arguments.{left};
 
-use crate::words::say;
+use crate::words::{say, say_bytes};
 use std::env::{Env, FillError};
 
 /// The most bytes of an argument, as of a path.
@@ -59,7 +59,7 @@ pub fn tell_wrong<E: Env, P: Print>(env: &E, err: &P, program: &str, wrong: Wron
     let mut word = [0u8; LONGEST_ARGUMENT];
     let n = env.arg(wrong.0, &mut word).unwrap_or(0);
     say(err, format_args!("{program}: the argument `"));
-    let _ = err.write_all(&word[..n]);
+    say_bytes(err, &word[..n]);
     say(
         err,
         format_args!("` is not understood. Expected: {expected}\n"),

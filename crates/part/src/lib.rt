@@ -9,4 +9,6 @@ mod words;
 pub use crate::arguments::{Arguments, LONGEST_ARGUMENT, Wrong, tell_wrong};
 pub use crate::cut::{NoPart, Parts, cut_part};
 pub use crate::input::{Answer, Source, read_full, with_source, zeros};
-pub use crate::words::{Flawed, GLOBALS, LOCALS, say, say_no_part, say_short, tell_failed};
+pub use crate::words::{
+    Flawed, GLOBALS, LOCALS, say, say_bytes, say_no_part, say_short, tell_failed,
+};

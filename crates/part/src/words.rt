@@ -69,7 +69,7 @@ pub fn tell_failed<P: Print>(err: &P, program: &str, name: &[u8], error: Error) 
     let _ = write!(text, "{error}");
     let words = without_number(text.as_str());
     say(err, format_args!("{program}: "));
-    let _ = err.write_all(name);
+    say_bytes(err, name);
     say(err, format_args!(": {words}\n"));
 }
 
@@ -78,6 +78,12 @@ fn without_number(text: &str) -> &str {
         Some((words, _)) => words,
         None => text,
     }
+}
+
+/// Says bytes as they stand, as far as they go out: a file's name and an argument need not be text. No clause can say what
+/// is printed.
+pub fn say_bytes<P: Print>(out: &P, bytes: &[u8]) {
+    let _ = out.write_all(bytes);
 }
 
 /// Says it as far as it goes out. No clause can say what is printed.
