@@ -23,7 +23,7 @@ impl<R: Read> Input<R> {
 
     // Reads the next record, or answers None where the input ended before it. One that is longer than the buffer is
     // passed over and counts as one of no bytes, which asks for nothing either. A read that fails counts as the end of
-    // the input. (no `read_exact`: it would try an interrupted read again)
+    // the input, an interrupted one too. (so no method of std, which would try it again)
     pub(crate) fn next_record(&mut self) -> Result<Option<&[u8]>, Broken> {
         let Input { input, buffer } = self;
         let mut head = [0; 4];
