@@ -58,3 +58,24 @@ pub cut_part_once : (κs : Lfts 1) (a : Dens κs cut_kinds.ps) (r r' : (res_t cu
 cut_part_once κs a r r' x x' p p' =
     let at = a.0.ref_ptr in
     sym (told_is at _ r p.1) ∙ ap (told_of at) (p.0 ∙ sym p'.0) ∙ told_is at _ r' p'.1
+
+-- where the two lists start in the bytes: the two numbers that the answer had, before it had the parts themselves
+abbrev pub places : Result Slices NoPart → Result (ℕ × ℕ) NoPart
+places (Ok p) = Ok (12 + length p.charstrings.now, 12 + length p.charstrings.now + length p.globals.now)
+places (Err e) = Err e
+
+places_of : Parts → Result (ℕ × ℕ) NoPart
+places_of headless = Err Headless
+places_of (says n) = Err (Says n)
+places_of (parts a b c) = Ok (12 + length a, 12 + length a + length b)
+
+places_is : (r : Result Slices NoPart) → places_of (cut_as r) ≡ places r
+unfolding places_of
+places_is (Ok p) = refl
+places_is (Err Headless) = refl
+places_is (Err (Says n)) = refl
+
+pub cut_places_once : (κs : Lfts 1) (a : Dens κs cut_kinds.ps) (r r' : (res_t cut_kinds.r κs).Denot)
+    (x x' : AtExit (ended_of 1 cut_kinds.ps cut_kinds.r) κs)
+    → cut_reads.Post κs a r x → cut_reads.Post κs a r' x' → places r ≡ places r'
+cut_places_once κs a r r' x x' p p' = sym (places_is r) ∙ ap places_of (p.0 ∙ sym p'.0) ∙ places_is r'
