@@ -10,7 +10,7 @@ mod flattening;
 use crate::answer::{tell, tell_no_part};
 use crate::arguments::{Asked, read_arguments};
 use crate::flattening::flatten_part;
-use part::{Answer, read_full, say, tell_wrong, with_source, zeros};
+use part::{Answer, read_full, say_bytes, tell_wrong, with_source, zeros};
 use std::io;
 use std::io::Read;
 
@@ -39,9 +39,10 @@ impl Answer for Asked {
         if from.read(&mut more)? == 0 {
             answer_part(rt, &input[..n], *self);
         } else {
-            say(
+            // (by bytes: printing would want a buffer on the stack)
+            say_bytes(
                 &rt.stderr(),
-                "flatten: the input is too long: a font part of more than 1048576 bytes is not taken.\n",
+                b"flatten: the input is too long: a font part of more than 1048576 bytes is not taken.\n",
             );
         }
         Ok(())

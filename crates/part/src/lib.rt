@@ -1,4 +1,6 @@
 // What the programs `flatten` and `why` share: cutting a font part, what they take in, and the sentences that both say.
+//
+// No public function has a `requires`: each answers every input.
 #![tactic(auto)]
 
 mod arguments;
