@@ -126,11 +126,13 @@ pub flaw_number_once : (κs : Lfts 0) (a : Dens κs flaw_number_kinds.ps) (r r' 
 flaw_number_once κs a r r' x x' p p' = p ∙ sym p'
 
 pub entry_from_index_once : (κs : Lfts 0) (a : Dens κs index_from_kinds.ps) (r r' : (res_t index_from_kinds.r κs).Denot)
-    (x x' : AtExit (ended_of 0 index_from_kinds.ps index_from_kinds.r) κs) → index_from_reads.Post κs a r x → index_from_reads.Post κs a r' x' → r ≡ r'
+    (x x' : AtExit (ended_of 0 index_from_kinds.ps index_from_kinds.r) κs)
+    → index_from_reads.Post κs a r x → index_from_reads.Post κs a r' x' → r ≡ r'
 entry_from_index_once κs a r r' x x' p p' = p ∙ sym p'
 
 pub entry_from_absence_once : (κs : Lfts 0) (a : Dens κs absence_from_kinds.ps) (r r' : (res_t absence_from_kinds.r κs).Denot)
-    (x x' : AtExit (ended_of 0 absence_from_kinds.ps absence_from_kinds.r) κs) → absence_from_reads.Post κs a r x → absence_from_reads.Post κs a r' x' → r ≡ r'
+    (x x' : AtExit (ended_of 0 absence_from_kinds.ps absence_from_kinds.r) κs)
+    → absence_from_reads.Post κs a r x → absence_from_reads.Post κs a r' x' → r ≡ r'
 entry_from_absence_once κs a r r' x x' p p' = p ∙ sym p'
 
 pub flaw_from_once : (κs : Lfts 0) (a : Dens κs flaw_from_kinds.ps) (r r' : (res_t flaw_from_kinds.r κs).Denot)

@@ -71,5 +71,6 @@ plan_index_once κs a r r' x x' p p' = sym (plan_undo r) ∙ ap plan_of (p ∙ s
 -- ---- an error that comes of another
 
 pub write_from_once : (κs : Lfts 0) (a : Dens κs write_from_kinds.ps) (r r' : (res_t write_from_kinds.r κs).Denot)
-    (x x' : AtExit (ended_of 0 write_from_kinds.ps write_from_kinds.r) κs) → write_from_reads.Post κs a r x → write_from_reads.Post κs a r' x' → r ≡ r'
+    (x x' : AtExit (ended_of 0 write_from_kinds.ps write_from_kinds.r) κs)
+    → write_from_reads.Post κs a r x → write_from_reads.Post κs a r' x' → r ≡ r'
 write_from_once κs a r r' x x' p p' = p ∙ sym p'
