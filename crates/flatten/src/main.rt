@@ -10,7 +10,7 @@ mod flattening;
 use crate::answer::{tell, tell_no_part};
 use crate::arguments::{Asked, read_arguments};
 use crate::flattening::flatten_part;
-use part::{Answer, read_full, say_bytes, tell_wrong, with_source, zeros};
+use part::{Answer, answer_source, read_full, say_bytes, tell_wrong, zeros};
 use std::io;
 use std::io::Read;
 
@@ -23,7 +23,7 @@ const EXPECTED: &str = "flatten [--font] [--strict] [--budget N] [FILE], \
 
 fn main(rt: HostRuntime) {
     match read_arguments(&rt) {
-        Ok(asked) => with_source(&rt, "flatten", asked.file, &asked),
+        Ok(asked) => answer_source(&rt, "flatten", asked.file, &asked),
         Err(wrong) => tell_wrong(&rt, &rt.stderr(), "flatten", wrong, EXPECTED),
     }
 }

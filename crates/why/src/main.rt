@@ -12,7 +12,7 @@ use crate::arguments::{Asked, read_arguments};
 use crate::explaining::explain_part;
 use crate::sentences::say_reply;
 use crate::text::say_why;
-use part::{Answer, read_full, tell_wrong, with_source, zeros};
+use part::{Answer, answer_source, read_full, tell_wrong, zeros};
 use std::io;
 use std::io::Read;
 
@@ -24,7 +24,7 @@ const EXPECTED: &str = "why [--words] [FILE]; without FILE the font part comes o
 
 fn main(rt: HostRuntime) {
     match read_arguments(&rt) {
-        Ok(asked) => with_source(&rt, "why", asked.file, &asked),
+        Ok(asked) => answer_source(&rt, "why", asked.file, &asked),
         Err(wrong) => tell_wrong(&rt, &rt.stderr(), "why", wrong, EXPECTED),
     }
 }
